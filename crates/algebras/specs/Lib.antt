@@ -1,0 +1,3 @@
+pub mod Transient
+pub mod Sums
+pub mod Kinds

@@ -1,0 +1,4 @@
+//! Transients of gate nets, the kinds of gate, and the algebras that grade transients.
+
+pub mod kind;
+pub mod transient;
