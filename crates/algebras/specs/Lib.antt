@@ -1,3 +1,5 @@
 pub mod Transient
 pub mod Sums
 pub mod Kinds
+pub mod Verdicts
+pub mod Counted

@@ -33,6 +33,10 @@ word t = letters (t .start) (t .changes)
 abbrev pub complement : Transient → Transient
 complement t = record { start = not (t .start); changes = t .changes }
 
+-- The transient of a drive: the word with a start and so many changes.
+abbrev pub driven : Bool → ℕ → Transient
+driven b n = record { start = b; changes = n }
+
 -- The words of one letter.
 abbrev pub zero-word : Transient
 zero-word = record { start = false; changes = 0 }

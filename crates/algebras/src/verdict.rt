@@ -1,0 +1,26 @@
+//! Verdicts on a wire.
+
+ghost use mathlib.Core.Path.{_≡_};
+ghost use Rattle.algebras.specs.Verdicts.{verdict-number};
+
+/// What a designer is told of a wire, with its number.
+#[derive(Clone, Copy, PartialEq, Eq, Debug)]
+pub enum Verdict {
+    /// No change.
+    Steady = 1,
+    /// Equal ends, and two changes or more.
+    StaticHazard = 2,
+    /// One change.
+    CleanChange = 3,
+    /// Unequal ends, and three changes or more.
+    DynamicHazard = 4,
+}
+
+impl Verdict {
+    /// The number of this verdict.
+    pub fn number(self) -> u8
+        ensures { λ r. ⌜ r ≡ verdict-number self ⌝ }
+    {
+        self as u8
+    }
+}
