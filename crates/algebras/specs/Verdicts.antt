@@ -1,5 +1,5 @@
 -- Verdicts: what a designer is told of a wire.
-use mathlib.Core.Bool.{cond}
+use mathlib.Core.Bool.{Bool, cond}
 use Prim.Native.Nat.{ℕ}
 use lib.Dec.{eqb}
 use Rattle.algebras.specs.declared.verdict.Verdict.{Verdict}
@@ -14,5 +14,9 @@ verdict-number CleanChange = 3
 verdict-number DynamicHazard = 4
 
 -- With equal ends: steady without a change, else a static hazard. With unequal ends: clean at one change, else a dynamic hazard.
+abbrev pub verdict-by : Bool → Bool → ℕ → Verdict
+verdict-by s e n = cond (differ s e) (cond (eqb n 1) CleanChange DynamicHazard) (cond (eqb n 0) Steady StaticHazard)
+
+-- The verdict on a transient.
 abbrev pub verdict-of : Transient → Verdict
-verdict-of t = cond (differ (t .start) (end-of t)) (cond (eqb (t .changes) 1) CleanChange DynamicHazard) (cond (eqb (t .changes) 0) Steady StaticHazard)
+verdict-of t = verdict-by (t .start) (end-of t) (t .changes)

@@ -1,7 +1,7 @@
 //! Verdicts on a wire.
 
 ghost use mathlib.Core.Path.{_≡_};
-ghost use Rattle.algebras.specs.Verdicts.{verdict-number};
+ghost use Rattle.algebras.specs.Verdicts.{verdict-number, verdict-by};
 
 /// What a designer is told of a wire, with its number.
 #[derive(Clone, Copy, PartialEq, Eq, Debug)]
@@ -17,6 +17,19 @@ pub enum Verdict {
 }
 
 impl Verdict {
+    // The verdict by a start, an end and a number of changes.
+    pub(crate) fn by(start: bool, end: bool, changes: u16) -> Verdict
+        ensures { λ r. ⌜ r ≡ verdict-by start «end» changes ⌝ }
+    {
+        if start == end {
+            if changes == 0 { Verdict::Steady } else { Verdict::StaticHazard }
+        } else if changes == 1 {
+            Verdict::CleanChange
+        } else {
+            Verdict::DynamicHazard
+        }
+    }
+
     /// The number of this verdict.
     pub fn number(self) -> u8
         ensures { λ r. ⌜ r ≡ verdict-number self ⌝ }

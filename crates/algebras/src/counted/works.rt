@@ -109,17 +109,15 @@ pub impl Algebra for Counted as CountedAlgebra {
     fn sum(&self, x: CountedGrade, y: CountedGrade) -> CountedGrade {
         let m = self.count(x) as u32;
         let n = self.count(y) as u32;
-        if (x.start && m == 0) || (y.start && n == 0) {
-            return self.of_changes(true, true, 0);
-        }
+        // A word 1 decides the sum, and a word 0 leaves the other.
         if m == 0 {
-            return self.of_changes(y.start, y.end, n);
+            return if x.start { self.of_changes(true, true, 0) } else { self.read(y) };
         }
         if n == 0 {
-            return self.of_changes(x.start, x.end, m);
+            return if y.start { self.of_changes(true, true, 0) } else { self.read(x) };
         }
         let shared = (x.start & y.start) as u32 + (x.end & y.end) as u32;
-        self.of_changes(x.start | y.start, x.end | y.end, (m + n).saturating_sub(shared))
+        self.of_changes(x.start | y.start, x.end | y.end, m + n - shared)
     }
 
     fn product(&self, x: CountedGrade, y: CountedGrade) -> CountedGrade {
@@ -152,13 +150,6 @@ pub impl Telling for Counted as CountedTelling {
     }
 
     fn verdict(&self, x: CountedGrade) -> Verdict {
-        let count = self.count(x);
-        if x.start == x.end {
-            if count == 0 { Verdict::Steady } else { Verdict::StaticHazard }
-        } else if count == 1 {
-            Verdict::CleanChange
-        } else {
-            Verdict::DynamicHazard
-        }
+        Verdict::by(x.start, x.end, self.count(x))
     }
 }
