@@ -1,0 +1,5 @@
+pub mod Wires
+pub mod Faults
+pub mod Working
+pub mod Placing
+pub mod Nets

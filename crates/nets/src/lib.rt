@@ -1,0 +1,5 @@
+//! Gate nets without feedback, worked under any algebra of transients, and their records.
+
+pub mod fault;
+pub mod net;
+pub mod wire;
