@@ -1,4 +1,5 @@
 //! Transients of gate nets, the kinds of gate, and the algebras that grade transients.
 
+pub mod hearing;
 pub mod kind;
 pub mod transient;
