@@ -6,6 +6,7 @@ use Prim.Native.Nat.{ℕ, zero, suc, _+_, _≤_, _<_}
 use native.Mathlib.Omega.{arith}
 use Rattle.algebras.specs.Transient.{Transient, complement}
 use Rattle.algebras.specs.Sums.{starts, total-changes}
+use Rattle.algebras.proofs.Words.{same-transient}
 use Rattle.algebras.specs.Hearing.{at-rest, longer, hears, changes-at}
 
 -- Each transient of the first list is a prefix of the second list's: the same start, and no more changes.
@@ -69,7 +70,7 @@ prefixes-rest none z = refl
 prefixes-rest (next {h} {x} s n p) z =
     let c : h .changes ≡ 0 = omega arith in
     let e = prefixes-rest p (omega arith) in
-    let t : h ≡ at-rest x = cc in
+    let t = same-transient h (at-rest x) s c in
     cc
 
 -- A pin that hears one change more adds one to all changes.
