@@ -12,13 +12,17 @@ use Rattle.algebras.specs.Hearing.{at-rest, hears, changes-at, answered, Heard
 use Rattle.algebras.specs.Hearing.Heard-to.{rests, arrives, loses}
 use Rattle.algebras.proofs.Prefixes.{Prefixes, prefixes-self, rest-prefixes, hears-prefixes, prefixes-hear, changes-at-hears, prefixes-at, prefixes-join, prefixes-rest, hears-total}
 
--- A pin that can be heard last, so that its last change adds at most one to F.
-pub record Heard-last (F : List Transient → ℕ) (hs : List Transient) : Type 0 where
+-- A change that can be heard last: at this pin, after what was heard before.
+pub record Last-change (hs : List Transient) : Type 0 where
   pub pin : ℕ
   pub before : List Transient
   pub hearing : hears pin before ≡ hs
   pub allowed : changes-at before pin < changes-at hs pin
-  pub falls : F hs ≤ suc (F before)
+
+-- One that adds at most one to F.
+pub record Heard-last (F : List Transient → ℕ) (hs : List Transient) : Type 0 where
+  pub last : Last-change hs
+  pub falls : F hs ≤ suc (F (last .before))
 
 -- What is needed of a Boolean function and a transient of pins: the transient follows the function, its changes grow with what
 -- the pins have heard, are at most all changes heard, and where some were heard one of them adds at most one.
@@ -130,16 +134,16 @@ module _ {f : List Bool → Bool} {G : List Transient → Transient} (r : Longes
       elim (cases-lt 0 (total-changes hs)) [
         inl m ↦
           let o = r .heard-last hs m in
-          let i = o .pin in
-          let gs = o .before in
-          let e = sym (o .hearing) in
+          let i = o .last .pin in
+          let gs = o .last .before in
+          let e = sym (o .last .hearing) in
           let q = subst (λ ts. Prefixes ts xs) e p in
-          let a = subst (λ ts. changes-at gs i < changes-at ts i) e (o .allowed) in
+          let a = subst (λ ts. changes-at gs i < changes-at ts i) e (o .last .allowed) in
           let u = subst (λ ts. G ts .changes ≤ suc (G gs .changes)) e (o .falls) in
           let t = hears-total i gs a in
           let s = ap total-changes e in
           let h = heard-reached n gs (prefixes-join (hears-prefixes i gs) q) (omega arith) in
-          subst (λ ts. Heard-to f xs ts (G ts .changes) 0) (o .hearing) (reached-next i gs q a u h)
+          subst (λ ts. Heard-to f xs ts (G ts .changes) 0) (o .last .hearing) (reached-next i gs q a u h)
       | inr z ↦ reached-rest p (omega arith) ]
 
   -- All changes of all pins can be heard in an order that loses nothing and makes all changes of the transient.

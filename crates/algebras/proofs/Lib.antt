@@ -2,3 +2,4 @@ pub mod Words
 pub mod Sums
 pub mod Prefixes
 pub mod Answering
+pub mod LastChanges
