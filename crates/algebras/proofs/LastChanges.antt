@@ -1,4 +1,4 @@
--- Which change can be heard last, for each Boolean function but OR: any change, at any pin.
+-- Which change can be heard last: any change for XOR and for a buffer, and for complements the change that it is without them.
 use mathlib.Core.Path.{_≡_, refl, sym, ap, _∙_, subst}
 use mathlib.Core.Bool.{Bool, true, false, not}
 use mathlib.Core.List.{List, [], _∷_, map}
@@ -9,15 +9,16 @@ use Rattle.algebras.specs.Transient.{Transient, end-of, complement, zero-word}
 use Rattle.algebras.specs.Sums.{starts, ends, total-changes, xor-of, exclusive, Follows-function}
 use Rattle.algebras.specs.Hearing.{longer, hears, changes-at}
 use Rattle.algebras.proofs.Words.{complement-involution, complement-end}
-use Rattle.algebras.proofs.Prefixes.{Prefixes, none, next, prefixes-total, prefixes-complement, hears-total, hears-complement, changes-at-complement}
+use Rattle.algebras.proofs.Sums.{sums-of-transients}
+use Rattle.algebras.proofs.Prefixes.{Prefixes, none, next, prefixes-starts, prefixes-total, prefixes-complement, hears-prefixes, hears-total, hears-complement, changes-at-complement, complements-twice, total-complement}
 use Rattle.algebras.proofs.Answering.{Last-change, Heard-last, Longest-for}
 
 -- The last change of the first pin.
-pub last-first : (b : Bool) (n : ℕ) (hs : List Transient) → Last-change (record { start = b; changes = suc n } ∷ hs)
+abbrev pub last-first : (b : Bool) (n : ℕ) (hs : List Transient) → Last-change (record { start = b; changes = suc n } ∷ hs)
 last-first b n hs = record { pin = 0; before = record { start = b; changes = n } ∷ hs; hearing = refl; allowed = omega arith }
 
 -- The last change of a later pin.
-pub last-later : (h : Transient) {hs : List Transient} → Last-change hs → Last-change (h ∷ hs)
+abbrev pub last-later : (h : Transient) {hs : List Transient} → Last-change hs → Last-change (h ∷ hs)
 last-later h l = record {
     pin = suc (l .pin);
     before = h ∷ l .before;
@@ -39,10 +40,14 @@ last-total l =
     let a = subst (λ ts. changes-at (l .before) (l .pin) < changes-at ts (l .pin)) (sym (l .hearing)) (l .allowed) in
     ap total-changes (sym (l .hearing)) ∙ hears-total (l .pin) (l .before) a
 
+-- The starts were the same before the last change.
+pub last-starts : {hs : List Transient} (l : Last-change hs) → starts hs ≡ starts (l .before)
+last-starts l = ap starts (sym (l .hearing)) ∙ sym (prefixes-starts (hears-prefixes (l .pin) (l .before)))
+
 -- XOR: every change of a pin is a change.
-pub exclusive-longest : Follows-function exclusive xor-of → Longest-for xor-of exclusive
-exclusive-longest follows = record {
-    follows = follows;
+pub exclusive-longest : Longest-for xor-of exclusive
+exclusive-longest = record {
+    follows = sums-of-transients .exclusive-follows;
     grows = λ p. prefixes-total p;
     within = λ hs. omega arith;
     heard-last = λ hs m.
@@ -102,3 +107,26 @@ complemented-longest {G = G} r = record {
     heard-last = λ hs m.
       let o = r .heard-last hs m in
       record { last = o .last; falls = o .falls } }
+
+-- The changes before the last one, with every pin complemented.
+abbrev pub last-complement : {hs : List Transient} → Last-change (map complement hs) → Last-change hs
+last-complement {hs} l =
+    let e = hears-complement (l .pin) (l .before) ∙ ap (map complement) (l .hearing) ∙ complements-twice hs in
+    let p = changes-at-complement (l .before) (l .pin) in
+    let q = changes-at-complement hs (l .pin) in
+    let a = l .allowed in
+    record { pin = l .pin; before = map complement (l .before); hearing = e; allowed = omega arith }
+
+-- A gate with its pins and its output complemented.
+pub exchanged-longest : {f g : List Bool → Bool} {G : List Transient → Transient} → Longest-for f G
+  → Follows-function (λ ts. complement (G (map complement ts))) g → Longest-for g (λ ts. complement (G (map complement ts)))
+exchanged-longest {G = G} r follows = record {
+    follows = follows;
+    grows = λ p. r .grows (prefixes-complement p);
+    within = λ hs. let w = r .within (map complement hs) in let t = total-complement hs in omega arith;
+    heard-last = λ hs m.
+      let t = total-complement hs in
+      let o = r .heard-last (map complement hs) (omega arith) in
+      record {
+        last = last-complement (o .last);
+        falls = subst (λ ts. G (map complement hs) .changes ≤ suc (G ts .changes)) (sym (complements-twice (o .last .before))) (o .falls) } }

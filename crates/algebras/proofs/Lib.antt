@@ -3,3 +3,4 @@ pub mod Sums
 pub mod Prefixes
 pub mod Answering
 pub mod LastChanges
+pub mod SumChanges

@@ -6,7 +6,7 @@ use Prim.Native.Nat.{ℕ, zero, suc, _+_, _≤_, _<_}
 use native.Mathlib.Omega.{arith}
 use Rattle.algebras.specs.Transient.{Transient, complement}
 use Rattle.algebras.specs.Sums.{starts, total-changes}
-use Rattle.algebras.proofs.Words.{same-transient}
+use Rattle.algebras.proofs.Words.{same-transient, complement-involution}
 use Rattle.algebras.specs.Hearing.{at-rest, longer, hears, changes-at}
 
 -- Each transient of the first list is a prefix of the second list's: the same start, and no more changes.
@@ -95,3 +95,13 @@ pub changes-at-complement : (hs : List Transient) (i : ℕ) → changes-at (map 
 changes-at-complement [] i = refl
 changes-at-complement (h ∷ hs) zero = refl
 changes-at-complement (h ∷ hs) (suc i) = changes-at-complement hs i
+
+-- Complements have the same changes in all.
+pub total-complement : (hs : List Transient) → total-changes (map complement hs) ≡ total-changes hs
+total-complement [] = refl
+total-complement (h ∷ hs) = ap (λ n. h .changes + n) (total-complement hs)
+
+-- Complements of complements are the transients themselves.
+pub complements-twice : (hs : List Transient) → map complement (map complement hs) ≡ hs
+complements-twice [] = refl
+complements-twice (h ∷ hs) = let p = complement-involution h in let q = complements-twice hs in cc
