@@ -1,16 +1,16 @@
 -- Both theorems of one gate that hears, for any Boolean function and any transient of its pins that have what is needed.
-use mathlib.Core.Path.{_≡_, refl, sym, ap, _∙_, subst}
+use mathlib.Core.Path.{_≡_, refl, sym, ap, subst}
 use mathlib.Core.Bool.{Bool, true, false, not, cond}
-use mathlib.Core.Logic.{_⊎_, inl, inr}
-use mathlib.Core.List.{List, [], _∷_, map}
-use Prim.Native.Nat.{ℕ, zero, suc, _+_, _≤_, _<_}
+use mathlib.Core.Logic.{inl, inr}
+use mathlib.Core.List.{List}
+use Prim.Native.Nat.{ℕ, zero, suc, _≤_, _<_}
 use native.Mathlib.Omega.{arith}
 use Rattle.std.proofs.shelf.Tests.{cases-eq, cases-lt, cond-both}
-use Rattle.algebras.specs.Transient.{Transient, flipped, end-of}
+use Rattle.algebras.specs.Transient.{Transient, flipped}
 use Rattle.algebras.specs.Sums.{starts, ends, differ, total-changes, Follows-function}
-use Rattle.algebras.specs.Hearing.{at-rest, hears, changes-at, answered, Heard-to}
+use Rattle.algebras.specs.Hearing.{hears, changes-at, answered, Heard-to}
 use Rattle.algebras.specs.Hearing.Heard-to.{rests, arrives, loses}
-use Rattle.algebras.proofs.Prefixes.{Prefixes, prefixes-self, rest-prefixes, hears-prefixes, prefixes-hear, changes-at-hears, prefixes-at, prefixes-join, prefixes-rest, hears-total}
+use Rattle.algebras.proofs.Prefixes.{Prefixes, prefixes-self, rest-prefixes, hears-prefixes, prefixes-hear, changes-at-hears, prefixes-at, prefixes-join, prefixes-rest, rest-same, hears-total}
 
 -- A change that can be heard last: at this pin, after what was heard before.
 pub record Last-change (hs : List Transient) : Type 0 where
@@ -106,10 +106,16 @@ heard-bounded r h =
     let g = r .grows (w .heard) in
     omega arith
 
--- What is heard and made, under other names.
+-- What is heard and made, by equal ones.
 pub same-heard : {f : List Bool → Bool} {xs gs hs : List Transient} {m n lost : ℕ} → gs ≡ hs → m ≡ n → Heard-to f xs gs m lost → Heard-to f xs hs n lost
 same-heard {f} {xs} {gs} {hs} {m} {n} {lost} p q h =
     subst (λ k. Heard-to f xs hs k lost) q (subst (λ ts. Heard-to f xs ts m lost) p h)
+
+-- What a gate comes to, it comes to as well where its wires go on to change.
+pub heard-wider : {f : List Bool → Bool} {xs ys hs : List Transient} {made lost : ℕ} → Prefixes xs ys → Heard-to f xs hs made lost → Heard-to f ys hs made lost
+heard-wider p rests = same-heard (sym (rest-same p)) refl rests
+heard-wider p (arrives i h l) = let k = prefixes-at i p in arrives i (heard-wider p h) (omega arith)
+heard-wider p (loses i h l) = let k = prefixes-at i p in loses i (heard-wider p h) (omega arith)
 
 module _ {f : List Bool → Bool} {G : List Transient → Transient} (r : Longest-for f G) (xs : List Transient) where
   -- Where no change is heard, all changes are made at rest.

@@ -1,17 +1,16 @@
 -- The transient of a gate of every kind is the longest word that its output can put out.
 use mathlib.Core.Path.{_≡_}
-use mathlib.Core.Bool.{Bool}
 use mathlib.Core.List.{List}
-use Prim.Native.Nat.{ℕ, suc, _≤_}
+use Prim.Native.Nat.{ℕ, _≤_}
 use Rattle.algebras.specs.declared.kind.Kind.{Kind}
 use Rattle.algebras.specs.declared.kind.Kind.the-variants.{Buffer, Inverter, And, Or, Xor, Nand, Nor, Xnor}
 use Rattle.algebras.specs.Transient.{Transient, end-of}
 use Rattle.algebras.specs.Sums.{starts, ends, total-changes, and-of, product}
 use Rattle.algebras.specs.Kinds.{gate-function, gate-transient}
-use Rattle.algebras.specs.Hearing.{answered, Heard-to, Longest-word-of-a-gate}
+use Rattle.algebras.specs.Hearing.{answered, Longest-word-of-a-gate}
 use Rattle.algebras.proofs.Sums.{sums-of-transients}
 use Rattle.algebras.proofs.Prefixes.{Prefixes}
-use Rattle.algebras.proofs.Answering.{Longest-for, Within, answer-kept, heard-within, heard-bounded, heard-reached, all-reached}
+use Rattle.algebras.proofs.Answering.{Longest-for, answer-kept, heard-bounded, all-reached}
 use Rattle.algebras.proofs.LastChanges.{first-longest, exclusive-longest, complemented-longest, exchanged-longest}
 use Rattle.algebras.proofs.SumChanges.{sum-longest}
 
@@ -51,7 +50,7 @@ pub gate-answer-kept : (k : Kind) {hs xs : List Transient} → Prefixes hs xs �
   → answered (gate-function k) xs made ≤ gate-transient k xs .changes
 gate-answer-kept k = answer-kept (gate-longest k)
 
--- Every transient of a gate's pins is its longest word's.
+-- A gate's transient is the longest word that its output can put out.
 pub longest-word-of-a-gate : Longest-word-of-a-gate
 longest-word-of-a-gate = record {
     follows = λ k. gate-longest k .follows;

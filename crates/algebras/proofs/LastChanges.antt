@@ -1,17 +1,17 @@
 -- Which change can be heard last: any change for XOR and for a buffer, and for complements the change that it is without them.
 use mathlib.Core.Path.{_≡_, refl, sym, ap, _∙_, subst}
-use mathlib.Core.Bool.{Bool, true, false, not}
+use mathlib.Core.Bool.{Bool, false, not}
 use mathlib.Core.List.{List, [], _∷_, map}
 use Prim.Native.Nat.{ℕ, zero, suc, _+_, _≤_, _<_}
 use native.Mathlib.Omega.{arith}
 use lib.ListN.{getD}
 use Rattle.algebras.specs.Transient.{Transient, end-of, complement, zero-word}
 use Rattle.algebras.specs.Sums.{starts, ends, total-changes, xor-of, exclusive, Follows-function}
-use Rattle.algebras.specs.Hearing.{longer, hears, changes-at}
-use Rattle.algebras.proofs.Words.{complement-involution, complement-end}
+use Rattle.algebras.specs.Hearing.{hears, changes-at}
+use Rattle.algebras.proofs.Words.{complement-end}
 use Rattle.algebras.proofs.Sums.{sums-of-transients}
 use Rattle.algebras.proofs.Prefixes.{Prefixes, none, next, prefixes-starts, prefixes-total, prefixes-complement, hears-prefixes, hears-total, hears-complement, changes-at-complement, complements-twice, total-complement}
-use Rattle.algebras.proofs.Answering.{Last-change, Heard-last, Longest-for}
+use Rattle.algebras.proofs.Answering.{Last-change, Longest-for}
 
 -- The last change of the first pin.
 abbrev pub last-first : (b : Bool) (n : ℕ) (hs : List Transient) → Last-change (record { start = b; changes = suc n } ∷ hs)

@@ -1,9 +1,10 @@
 -- Lists of transients of which each is a prefix of another's.
 use mathlib.Core.Path.{_≡_, refl, ap, _∙_}
-use mathlib.Core.Bool.{Bool, true, false, not}
+use mathlib.Core.Bool.{not}
 use mathlib.Core.List.{List, [], _∷_, map}
 use Prim.Native.Nat.{ℕ, zero, suc, _+_, _≤_, _<_}
 use native.Mathlib.Omega.{arith}
+use lib.ListN.{length, getD, set}
 use Rattle.algebras.specs.Transient.{Transient, complement}
 use Rattle.algebras.specs.Sums.{starts, total-changes}
 use Rattle.algebras.proofs.Words.{same-transient, complement-involution}
@@ -49,10 +50,21 @@ prefixes-at i none = omega arith
 prefixes-at zero (next s n p) = n
 prefixes-at (suc i) (next s n p) = prefixes-at i p
 
+-- A pin that hears one change more, by its place in the list.
+pub hears-set : (i : ℕ) (hs : List Transient) (d : Transient) → hears i hs ≡ set hs i (longer (getD hs i d))
+hears-set i [] d = refl
+hears-set zero (h ∷ hs) d = refl
+hears-set (suc i) (h ∷ hs) d = ap (λ (ts : List Transient). h ∷ ts) (hears-set i hs d)
+
 -- Prefixes of prefixes are prefixes.
 pub prefixes-join : {gs hs xs : List Transient} → Prefixes gs hs → Prefixes hs xs → Prefixes gs xs
 prefixes-join none none = none
 prefixes-join (next s n p) (next t m q) = next (s ∙ t) (omega arith) (prefixes-join p q)
+
+-- There are as many prefixes as words.
+pub prefixes-length : {hs xs : List Transient} → Prefixes hs xs → length hs ≡ length xs
+prefixes-length none = refl
+prefixes-length (next s n p) = ap suc (prefixes-length p)
 
 -- The starts of prefixes are the starts.
 pub prefixes-starts : {hs xs : List Transient} → Prefixes hs xs → starts hs ≡ starts xs
@@ -63,6 +75,14 @@ prefixes-starts (next s n p) = let e = prefixes-starts p in cc
 pub prefixes-total : {hs xs : List Transient} → Prefixes hs xs → total-changes hs ≤ total-changes xs
 prefixes-total none = omega arith
 prefixes-total (next s n p) = let l = prefixes-total p in omega arith
+
+-- At rest the same is heard of words and of their prefixes.
+pub rest-same : {hs xs : List Transient} → Prefixes hs xs → map at-rest hs ≡ map at-rest xs
+rest-same none = refl
+rest-same (next {h} {x} s n p) =
+    let t = same-transient (at-rest h) (at-rest x) s refl in
+    let e = rest-same p in
+    cc
 
 -- Prefixes with no change at all are what is heard at rest.
 pub prefixes-rest : {hs xs : List Transient} → Prefixes hs xs → total-changes hs ≡ 0 → hs ≡ map at-rest xs

@@ -1,12 +1,12 @@
 -- The changes of a sum: how they grow with what the pins have heard, and which change can be heard last.
 use mathlib.Core.Path.{_≡_, refl, sym, ap, _∙_}
-use mathlib.Core.Bool.{Bool, true, false, not, cond, _&&_, _||_}
+use mathlib.Core.Bool.{Bool, true, false, not, cond, _&&_}
 use mathlib.Core.Logic.{_⊎_, inl, inr}
 use mathlib.Core.List.{List, [], _∷_, map}
-use Prim.Native.Nat.{ℕ, zero, suc, _+_, _-_, _≤_, _<_}
+use Prim.Native.Nat.{ℕ, zero, suc, _+_, _-_, _≤_}
 use native.Mathlib.Omega.{arith}
 use lib.Dec.{eqb}
-use Rattle.std.proofs.shelf.Tests.{cases-eq, cases-lt, cases-bool, and-cases, and-left, and-right, or-parts, or-from, not-true, eqb-false, ne-eqb, true≢false}
+use Rattle.std.proofs.shelf.Tests.{cases-eq, cases-bool, and-cases, and-left, and-right, or-parts, or-from, not-true, eqb-false, ne-eqb, true≢false}
 use Rattle.algebras.specs.Transient.{Transient, flipped, end-of, is-zero, is-one}
 use Rattle.algebras.specs.Sums.{or-of, bit, ones, starts, ends, total-changes, without-zeros, deduction, sum-changes, sum-of-rest, sum}
 use Rattle.algebras.proofs.Sums.{bit-small, zero-is, one-is, moving-not-one, sum-is-rest, sum-is-one, sums-of-transients}
