@@ -3,3 +3,4 @@ pub mod Faults
 pub mod Working
 pub mod Placing
 pub mod Nets
+pub mod Asking

@@ -29,21 +29,25 @@ abbrev pub count-allowed : Option Kind → ℕ → Bool
 count-allowed None n = false
 count-allowed (Some k) n = pins-allowed k n
 
--- The checks of a request, in their order, where so many wires stand and the column is so long.
--- Where wires 0 to n - 1 stand, the new wire is n, and a pin that names n or more is too high.
-abbrev pub checks : ℕ → ℕ → Request → List Check
-checks n long (ask-input start changes) =
+-- Whether there is room for a wire where so many stand and the column is so long.
+abbrev pub room-checks : ℕ → ℕ → List Check
+room-checks n long =
     record { refuses = leb 512 n; fault = Full }
     ∷ record { refuses = leb long n; fault = ShortColumn }
-    ∷ record { refuses = ltb 1 start; fault = BadStart }
     ∷ []
-checks n long (ask-gate kind pins) =
-    record { refuses = leb 512 n; fault = Full }
-    ∷ record { refuses = leb long n; fault = ShortColumn }
-    ∷ record { refuses = not (isSome (kind-of kind)); fault = BadKind }
+
+-- The checks of a request itself. Where wires 0 to n - 1 stand the new wire is n, and a pin that names n or more is too high.
+abbrev pub request-checks : ℕ → Request → List Check
+request-checks n (ask-input start changes) = record { refuses = ltb 1 start; fault = BadStart } ∷ []
+request-checks n (ask-gate kind pins) =
+    record { refuses = not (isSome (kind-of kind)); fault = BadKind }
     ∷ record { refuses = not (count-allowed (kind-of kind) (length pins)); fault = BadPinCount }
     ∷ record { refuses = or-of (map (leb n) pins); fault = HighPin }
     ∷ []
+
+-- All checks of placing, in their order.
+abbrev pub checks : ℕ → ℕ → Request → List Check
+checks n long q = room-checks n long ++ request-checks n q
 
 -- The fault with which a request is refused, if it is.
 abbrev pub refusal : ℕ → ℕ → Request → Option NetFault

@@ -1,5 +1,5 @@
 -- The plain net: a list of inputs with drives and gates with kind and pins, and the transient of each wire.
-use mathlib.Core.Bool.{Bool}
+use mathlib.Core.Bool.{Bool, false}
 use mathlib.Core.List.{List, [], _∷_, _++_, map}
 use Prim.Native.Nat.{ℕ, _<_}
 use lib.ListN.{length, getD, take}
@@ -25,6 +25,24 @@ pin-list p = take (p .«count») (p .wires)
 abbrev pub plain : Wire → Plain
 plain (Input d) = input (d .start) (d .changes)
 plain (Output g) = gate (g .kind) (pin-list (g .pins))
+
+-- Pins that all name wires below n.
+abbrev pub Below : ℕ → List ℕ → Type 0
+Below n ps = (k : ℕ) → k < length ps → getD ps k 0 < n
+
+-- A wire whose pins, if it is a gate, all name wires below n; a gate has a pin at least.
+abbrev pub Within : ℕ → Plain → Type 0
+Within n (input b c) = Unit {0}
+Within n (gate k ps) = (0 < length ps) × Below n ps
+
+-- The pins of a wire; an input has none.
+abbrev pub pins-of : Plain → List ℕ
+pins-of (input b n) = []
+pins-of (gate k ps) = ps
+
+-- Every pin of a net names a wire of lower number.
+abbrev pub Lower : List Plain → Type 0
+Lower ws = (w k : ℕ) → w < length ws → k < length (pins-of (getD ws w (input false 0))) → getD (pins-of (getD ws w (input false 0))) k 0 < w
 
 -- The transient of a wire, after those of the wires before it.
 abbrev pub transient-after : List Transient → Plain → Transient

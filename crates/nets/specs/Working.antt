@@ -41,10 +41,14 @@ gate-grade L a k (x ∷ xs) = gives L a k (joined (joins L a k) x xs)
 abbrev pub entry : {X G : Type 0} → Ghosts X G → X → List G → ℕ → G
 entry L a column w = getD column w (L .grade a zero-word)
 
+-- The entries of the wires that pins name.
+abbrev pub entries : {X G : Type 0} → Ghosts X G → X → List G → List ℕ → List G
+entries L a column ps = map (entry L a column) ps
+
 -- The grade of a wire, worked from a column.
 abbrev pub worked : {X G : Type 0} → Ghosts X G → X → List G → Plain → G
 worked L a column (input b n) = L .grade a (driven b n)
-worked L a column (gate k ps) = gate-grade L a k (map (entry L a column) ps)
+worked L a column (gate k ps) = gate-grade L a k (entries L a column ps)
 
 -- A column is kept for a net where its entries, one for each wire, are the grades of the wires' transients.
 abbrev pub Kept : {X G : Type 0} → Ghosts X G → X → List Plain → List G → Type 0

@@ -2,4 +2,5 @@
 
 pub mod fault;
 pub mod net;
+pub mod told;
 pub mod wire;

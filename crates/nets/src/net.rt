@@ -1,11 +1,15 @@
 //! A net: an algebra and a table of wires.
 
 ghost use Prim.Native.Nat.{_≤_};
-ghost use Rattle.std.specs.Of.Vec.{vec-len, vec-cap};
+ghost use mathlib.Core.List.{map};
+ghost use Rattle.nets.specs.Wires.{Lower, plain};
+ghost use Rattle.std.specs.Of.Vec.{vec-cap, vec-items, vec-len};
 use crate::wire::Wire;
 use algebras::algebra::Algebra;
 
+pub mod ask;
 pub mod place;
+pub(crate) mod work;
 
 /// The wires of a net, of which there are at most 512, in the order of placing.
 #[derive(Drop)]
@@ -20,4 +24,5 @@ pub struct Table {
 pub struct Net<L: Algebra> {
     algebra: L,
     table: Table,
+    ghost lower: { Lower (map plain (vec-items (table .wires))) },
 }

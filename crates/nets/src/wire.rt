@@ -3,6 +3,8 @@
 ghost use Prim.Native.Nat.{_≤_};
 use algebras::kind::Kind;
 
+pub mod slots;
+
 /// The drive of an input: its start, and how often it changes.
 #[derive(Clone, Copy)]
 pub struct Drive {

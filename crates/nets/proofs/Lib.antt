@@ -1,0 +1,4 @@
+pub mod Joining
+pub mod Placements
+pub mod Pinning
+pub mod Grading
