@@ -2,3 +2,5 @@ pub mod Joining
 pub mod Placements
 pub mod Pinning
 pub mod Grading
+pub mod Decodings
+pub mod Readings

@@ -18,6 +18,7 @@ use Rattle.std.specs.Options.{isSome, valueOr}
 use Rattle.nets.specs.declared.fault.NetFault.{NetFault}
 use Rattle.nets.specs.declared.fault.NetFault.the-variants.{BadKind, BadPinCount, HighPin}
 use Rattle.nets.specs.Placing.{count-allowed}
+use Rattle.nets.specs.Records.{first-high}
 use Rattle.nets.specs.Wires.{Plain, gate, Below, Within}
 
 -- Whether a pin from the i-th on names wire w or a higher one.
@@ -78,3 +79,14 @@ gate-passes o k w ps qs kind-is few low pins-are =
   where
     passes : {x y z : Bool} → x ≡ true → y ≡ true → z ≡ false → cond (not x) (Some BadKind) (cond (not y) (Some BadPinCount) (cond z (Some HighPin) None)) ≡ None
     passes {x} {y} {z} p q r = rw (p, q, r)
+
+-- The place of the first pin too high, from the i-th pin on.
+pub first-here : (w : ℕ) (ps : List ℕ) (i : ℕ) → i < length ps → w ≤ getD ps i 0 → first-high w (drop i ps) ≡ 0
+first-here w ps i within high =
+    at-drop-more (first-high w) ps i 0 within
+    ∙ ap (λ (b : Bool). cond b 0 (suc (first-high w (drop (i + 1) ps)))) (le-leb w (getD ps i 0) high)
+
+pub first-later : (w : ℕ) (ps : List ℕ) (i : ℕ) → i < length ps → getD ps i 0 < w → first-high w (drop i ps) ≡ suc (first-high w (drop (i + 1) ps))
+first-later w ps i within low =
+    at-drop-more (first-high w) ps i 0 within
+    ∙ ap (λ (b : Bool). cond b 0 (suc (first-high w (drop (i + 1) ps)))) (lt-leb w (getD ps i 0) low)

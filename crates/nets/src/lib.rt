@@ -2,5 +2,6 @@
 
 pub mod fault;
 pub mod net;
+pub(crate) mod records;
 pub mod told;
 pub mod wire;

@@ -9,6 +9,7 @@ use algebras::algebra::Algebra;
 
 pub mod ask;
 pub mod place;
+pub mod read;
 pub(crate) mod work;
 
 /// The wires of a net, of which there are at most 512, in the order of placing.
