@@ -4,3 +4,4 @@ pub mod Pinning
 pub mod Grading
 pub mod Decodings
 pub mod Readings
+pub mod Outcomes
