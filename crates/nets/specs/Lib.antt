@@ -3,3 +3,5 @@ pub mod Faults
 pub mod Working
 pub mod Placing
 pub mod Nets
+pub mod Arrivals
+pub mod Histories
