@@ -1,1 +1,3 @@
 pub mod Wiring
+pub mod Heard
+pub mod Bounds
