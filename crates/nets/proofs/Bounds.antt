@@ -10,7 +10,7 @@ use Rattle.algebras.specs.Hearing.{answered}
 use Rattle.algebras.specs.Transient.{Transient}
 use Rattle.algebras.proofs.Prefixes.{Prefixes}
 use Rattle.nets.specs.Wires.{Plain, transient}
-use Rattle.nets.specs.Arrivals.{wire-at, drive-of, pins-of, pin-count, pin-wire, Lower, value-for, State, rest, makes, hears, answers, Step, moves, arrives, loses, Allowed, after, Allowed-all, after-all, Order, ending}
+use Rattle.nets.specs.Arrivals.{wire-at, drive-of, pins-of, pin-count, pin-wire, Lower, function-of, State, rest, makes, hears, answers, Step, moves, arrives, loses, Allowed, after, Allowed-all, after-all, Order, ending}
 use Rattle.nets.proofs.Wiring.{start-of-transient}
 use Rattle.nets.proofs.Heard.{heard-at, heard-of, pin-transients, transient-for, for-grows, for-drive, for-answer, prefixes-places, transient-pins, makes-same, makes-other, makes-grows, hears-same, hears-other, hears-other-pin, hears-grows, answers-heard, answers-heard-of, answers-other, answers-grows, answers-same}
 

@@ -18,7 +18,7 @@ use Rattle.algebras.specs.Transient.{Transient, driven, end-of, zero-word, flip
 use Rattle.algebras.proofs.Prefixes.{Prefixes, none, next, prefixes-starts}
 use Rattle.algebras.proofs.EveryKind.{gate-start, gate-grows, gate-answer-kept}
 use Rattle.nets.specs.Wires.{Plain, input, gate, transient-after, transients, transient}
-use Rattle.nets.specs.Arrivals.{wire-at, drive-of, pins-of, pin-count, pin-wire, Lower, value-for, start-of, State, rest, wire-value, pin-value, function-value, makes, hears, answers}
+use Rattle.nets.specs.Arrivals.{wire-at, drive-of, pins-of, pin-count, pin-wire, Lower, function-of, start-of, State, rest, wire-value, pin-value, pin-values, makes, hears, answers}
 use Rattle.nets.proofs.Wiring.{transient-lower, start-of-transient}
 
 -- What pin i of gate w has heard: its wire's start, with as many changes as it heard.
@@ -39,7 +39,7 @@ transient-for (input b n) xs = driven b n
 transient-for (gate k ps) xs = gate-transient k xs
 
 -- It starts as the wire does.
-pub for-start : (p : Plain) (xs : List Transient) → transient-for p xs .start ≡ value-for p (starts xs)
+pub for-start : (p : Plain) (xs : List Transient) → transient-for p xs .start ≡ function-of p (starts xs)
 for-start (input b n) xs = refl
 for-start (gate k ps) xs = gate-start k xs
 
@@ -56,7 +56,7 @@ for-drive (gate k ps) xs = omega arith
 -- Where there are pins, an output within the transient of what they had heard is within that of what they hear now, once it
 -- has answered.
 pub for-answer : (p : Plain) → 0 < length (pins-of p) → {hs xs : List Transient} → Prefixes hs xs → (made : ℕ)
-  → made ≤ transient-for p hs .changes → answered (value-for p) xs made ≤ transient-for p xs .changes
+  → made ≤ transient-for p hs .changes → answered (function-of p) xs made ≤ transient-for p xs .changes
 for-answer (input b n) l q made m = absurd (omega arith)
 for-answer (gate k ps) l q made m = gate-answer-kept k q made m
 
@@ -100,10 +100,10 @@ rest-heard net w =
       (λ i l. start-of-transient net (pin-wire net w i)) (λ i l. omega arith)
 
 -- The start of a wire belongs to the starts of what its pins have heard.
-pub start-heard : (net : List Plain) → Lower net → (s : State) (w : ℕ) → start-of net w ≡ value-for (wire-at net w) (starts (heard-of net s w))
+pub start-heard : (net : List Plain) → Lower net → (s : State) (w : ℕ) → start-of net w ≡ function-of (wire-at net w) (starts (heard-of net s w))
 start-heard net lower s w =
     start-of-transient net w ∙ ap (λ (t : Transient). t .start) (transient-pins net lower w) ∙ for-start (wire-at net w) (pin-transients net w)
-      ∙ ap (value-for (wire-at net w)) (sym (starts-heard net s w ∙ prefixes-starts (rest-heard net w)))
+      ∙ ap (function-of (wire-at net w)) (sym (starts-heard net s w ∙ prefixes-starts (rest-heard net w)))
 
 -- A wire that makes a change has made one more.
 pub makes-same : (w : ℕ) (s : State) → makes w s .made w ≡ suc (s .made w)
@@ -146,7 +146,7 @@ hears-grows w i s v j = grown (eqb v w && eqb j i)
 
 -- An answer leaves what was heard.
 pub answers-heard : (net : List Plain) (w : ℕ) (s : State) → answers net w s .heard ≡ s .heard
-answers-heard net w s = kept (differ (function-value net s w) (wire-value net s w))
+answers-heard net w s = kept (differ (function-of (wire-at net w) (pin-values net s w)) (wire-value net s w))
   where
     kept : (b : Bool) → (cond b (makes w s) s) .heard ≡ s .heard
     kept true = refl
@@ -159,7 +159,7 @@ answers-heard-of net w s v =
 
 -- An answer leaves what any other wire has made.
 pub answers-other : (net : List Plain) (w : ℕ) (s : State) (v : ℕ) → (v ≡ w → ⊥) → answers net w s .made v ≡ s .made v
-answers-other net w s v d = kept (differ (function-value net s w) (wire-value net s w))
+answers-other net w s v d = kept (differ (function-of (wire-at net w) (pin-values net s w)) (wire-value net s w))
   where
     kept : (b : Bool) → (cond b (makes w s) s) .made v ≡ s .made v
     kept true = makes-other w s v d
@@ -167,7 +167,7 @@ answers-other net w s v d = kept (differ (function-value net s w) (wire-value ne
 
 -- An answer takes back no change.
 pub answers-grows : (net : List Plain) (w : ℕ) (s : State) (v : ℕ) → s .made v ≤ answers net w s .made v
-answers-grows net w s v = grown (differ (function-value net s w) (wire-value net s w))
+answers-grows net w s v = grown (differ (function-of (wire-at net w) (pin-values net s w)) (wire-value net s w))
   where
     grown : (b : Bool) → s .made v ≤ (cond b (makes w s) s) .made v
     grown true = makes-grows w s v
@@ -175,16 +175,16 @@ answers-grows net w s v = grown (differ (function-value net s w) (wire-value net
 
 -- What a gate's wire has made once it has answered what its pins have heard.
 pub answers-same : (net : List Plain) → Lower net → (w : ℕ) (s : State)
-  → answers net w s .made w ≡ answered (value-for (wire-at net w)) (heard-of net s w) (s .made w)
+  → answers net w s .made w ≡ answered (function-of (wire-at net w)) (heard-of net s w) (s .made w)
 answers-same net lower w s =
-    made-by (differ (function-value net s w) (wire-value net s w))
+    made-by (differ (function-of (wire-at net w) (pin-values net s w)) (wire-value net s w))
       ∙ ap (λ (b : Bool). cond b (suc (s .made w)) (s .made w)) (v ∙ o)
   where
     made-by : (b : Bool) → (cond b (makes w s) s) .made w ≡ cond b (suc (s .made w)) (s .made w)
     made-by true = makes-same w s
     made-by false = refl
-    v : differ (function-value net s w) (wire-value net s w) ≡ differ (value-for (wire-at net w) (ends (heard-of net s w))) (wire-value net s w)
-    v = ap (λ (bs : List Bool). differ (value-for (wire-at net w) bs) (wire-value net s w)) (sym (ends-heard net s w))
-    o : differ (value-for (wire-at net w) (ends (heard-of net s w))) (wire-value net s w)
-      ≡ differ (value-for (wire-at net w) (ends (heard-of net s w))) (flipped (value-for (wire-at net w) (starts (heard-of net s w))) (s .made w))
-    o = ap (λ (b : Bool). differ (value-for (wire-at net w) (ends (heard-of net s w))) (flipped b (s .made w))) (start-heard net lower s w)
+    v : differ (function-of (wire-at net w) (pin-values net s w)) (wire-value net s w) ≡ differ (function-of (wire-at net w) (ends (heard-of net s w))) (wire-value net s w)
+    v = ap (λ (bs : List Bool). differ (function-of (wire-at net w) bs) (wire-value net s w)) (sym (ends-heard net s w))
+    o : differ (function-of (wire-at net w) (ends (heard-of net s w))) (wire-value net s w)
+      ≡ differ (function-of (wire-at net w) (ends (heard-of net s w))) (flipped (function-of (wire-at net w) (starts (heard-of net s w))) (s .made w))
+    o = ap (λ (b : Bool). differ (function-of (wire-at net w) (ends (heard-of net s w))) (flipped b (s .made w))) (start-heard net lower s w)

@@ -17,7 +17,7 @@ use Rattle.algebras.proofs.Answering.{all-reached}
 use Rattle.algebras.proofs.EveryKind.{gate-longest}
 use Rattle.algebras.proofs.Words.{same-transient}
 use Rattle.nets.specs.Wires.{Plain, input, gate, transient}
-use Rattle.nets.specs.Arrivals.{wire-at, drive-of, pins-of, pin-count, pin-wire, Lower, value-for, start-of, State, rest, makes, hears, answers, Step, moves, arrives, loses, Allowed, after, Order, ending, Serves-in-turn}
+use Rattle.nets.specs.Arrivals.{wire-at, drive-of, pins-of, pin-count, pin-wire, Lower, function-of, start-of, State, rest, makes, hears, answers, Step, moves, arrives, loses, Allowed, after, Order, ending, Serves-in-turn}
 use Rattle.nets.proofs.Wiring.{start-of-transient}
 use Rattle.nets.proofs.Heard.{heard-at, heard-of, pin-transients, transient-for, for-drive, transient-pins, makes-same, makes-other, hears-same, hears-other, hears-other-pin, answers-heard, answers-heard-of, answers-other, answers-same}
 use Rattle.nets.proofs.Turns.{Comes-to, comes-rest, comes-also, comes-next}
@@ -181,7 +181,7 @@ heard-of-hears net c i s l =
 -- A change that arrives in the turn of gate c.
 pub turn-arrives : (net : List Plain) → Lower net → (c i : ℕ) (hs : List Transient) (m : ℕ) (s : State) → i < pin-count net c
   → In-turn-of net c hs m s
-  → In-turn-of net c (hears-at i hs) (answered (value-for (wire-at net c)) (hears-at i hs) m) (answers net c (hears c i s))
+  → In-turn-of net c (hears-at i hs) (answered (function-of (wire-at net c)) (hears-at i hs) m) (answers net c (hears c i s))
 turn-arrives net lower c i hs m s l t =
     let e : heard-of net (hears c i s) c ≡ hears-at i hs =
         sym (heard-of-hears net c i s l) ∙ ap (hears-at i) (t .heard) in
@@ -189,8 +189,8 @@ turn-arrives net lower c i hs m s l t =
       around = around-arrives net c i s (t .around);
       here =
         answers-same net lower c (hears c i s)
-          ∙ ap (λ (gs : List Transient). answered (value-for (wire-at net c)) gs (s .made c)) e
-          ∙ ap (answered (value-for (wire-at net c)) (hears-at i hs)) (t .here);
+          ∙ ap (λ (gs : List Transient). answered (function-of (wire-at net c)) gs (s .made c)) e
+          ∙ ap (answered (function-of (wire-at net c)) (hears-at i hs)) (t .here);
       heard = answers-heard-of net c (hears c i s) c ∙ e }
 
 -- In the turn of gate c a change is allowed to arrive at a pin that has not heard its wire's whole transient.
@@ -208,7 +208,7 @@ turn-allows net lower c i hs m s l t =
 
 -- What one gate can come to losing no pulse, gate c comes to in its turn.
 pub turn-comes : (net : List Plain) → Lower net → (c : ℕ) {hs : List Transient} {m lost : ℕ}
-  → Heard-to (value-for (wire-at net c)) (pin-transients net c) hs m lost → lost ≡ 0
+  → Heard-to (function-of (wire-at net c)) (pin-transients net c) hs m lost → lost ≡ 0
   → Comes-to net c (In-turn-of net c (map at-rest (pin-transients net c)) 0) → Comes-to net (suc c) (In-turn-of net c hs m)
 turn-comes net lower c rests z r =
     let P = In-turn-of net c (map at-rest (pin-transients net c)) 0 in
@@ -216,14 +216,14 @@ turn-comes net lower c rests z r =
 turn-comes net lower c (arrived {hs} {made = m} i h l) z r =
     let k = place-of-changes (λ (j : ℕ). transient net (pin-wire net c j)) (pin-count net c) i (changes-at hs i) l in
     comes-next net (suc c) (In-turn-of net c hs m)
-      (In-turn-of net c (hears-at i hs) (answered (value-for (wire-at net c)) (hears-at i hs) m)) (arrives c i) (omega arith) tt
+      (In-turn-of net c (hears-at i hs) (answered (function-of (wire-at net c)) (hears-at i hs) m)) (arrives c i) (omega arith) tt
       (λ s t. turn-allows net lower c i hs m s l t) (λ s t. turn-arrives net lower c i hs m s k t) (turn-comes net lower c h z r)
 turn-comes net lower c (lost-at i h l) z r = absurd (omega arith)
 
 -- A wire is an input, without pins and with the transient of its drive, or a gate, which can come to all of its transient.
 pub input-or-gate : (p : Plain)
   → ((length (pins-of p) ≡ 0) × ((xs : List Transient) → transient-for p xs .changes ≡ drive-of p))
-    ⊎ ((drive-of p ≡ 0) × ((xs : List Transient) → Heard-to (value-for p) xs xs (transient-for p xs .changes) 0))
+    ⊎ ((drive-of p ≡ 0) × ((xs : List Transient) → Heard-to (function-of p) xs xs (transient-for p xs .changes) 0))
 input-or-gate (input b n) = inl (refl, λ xs. refl)
 input-or-gate (gate k ps) = inr (refl, λ xs. all-reached (gate-longest k) xs)
 

@@ -13,7 +13,7 @@ use Rattle.algebras.specs.Sums.{starts}
 use Rattle.algebras.specs.Transient.{Transient, zero-word}
 use Rattle.algebras.proofs.EveryKind.{gate-start}
 use Rattle.nets.specs.Wires.{Plain, input, gate, transient-after, transients-after, transients, transient}
-use Rattle.nets.specs.Arrivals.{wire-at, pins-of, pin-count, pin-wire, Lower, value-for, starts-after, start-of}
+use Rattle.nets.specs.Arrivals.{wire-at, pins-of, pin-count, pin-wire, Lower, function-of, starts-after, start-of}
 
 -- Wires worked after others.
 pub transients-after-append : (ts : List Transient) (us ws : List Plain) → transients-after ts (us ++ ws) ≡ transients-after (transients-after ts us) ws
@@ -109,7 +109,7 @@ starts-places ts [] = refl
 starts-places ts (p ∷ ps) = let h = getD-starts ts p in let t = starts-places ts ps in cc
 
 -- A wire's start, from the starts of its pins, is that of its transient.
-pub value-start : (ts : List Transient) (p : Plain) → value-for p (map (λ q. getD (starts ts) q false) (pins-of p)) ≡ transient-after ts p .start
+pub value-start : (ts : List Transient) (p : Plain) → function-of p (map (λ q. getD (starts ts) q false) (pins-of p)) ≡ transient-after ts p .start
 value-start ts (input b n) = refl
 value-start ts (gate k ps) =
     ap (gate-function k) (starts-places ts ps) ∙ sym (gate-start k (map (λ p. getD ts p zero-word) ps))
@@ -119,7 +119,7 @@ pub starts-after-transients : (ts : List Transient) (ws : List Plain) → starts
 starts-after-transients ts [] = refl
 starts-after-transients ts (w ∷ ws) =
     let t = transient-after ts w in
-    let e : starts ts ++ value-for w (map (λ q. getD (starts ts) q false) (pins-of w)) ∷ [] ≡ starts (ts ++ t ∷ []) =
+    let e : starts ts ++ function-of w (map (λ q. getD (starts ts) q false) (pins-of w)) ∷ [] ≡ starts (ts ++ t ∷ []) =
         ap (λ (b : Bool). starts ts ++ b ∷ []) (value-start ts w) ∙ sym (map-push (λ (x : Transient). x .start) ts t) in
     ap (λ (bs : List Bool). starts-after bs ws) e ∙ starts-after-transients (ts ++ t ∷ []) ws
 
