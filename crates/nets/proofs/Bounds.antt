@@ -1,18 +1,16 @@
 -- No order gives a wire more changes than its transient has.
-use mathlib.Core.Path.{_≡_, refl, sym, ap, subst, _∙_}
+use mathlib.Core.Path.{refl, sym, ap, subst}
 use mathlib.Core.Logic.{inl, inr}
 use mathlib.Core.List.{List, [], _∷_}
-use Prim.Native.Nat.{ℕ, zero, suc, _+_, _≤_, _<_}
+use Prim.Native.Nat.{ℕ, zero, suc, _≤_, _<_}
 use native.Mathlib.Omega.{arith}
-use lib.ListN.{length}
 use Rattle.std.proofs.shelf.Tests.{cases-eq}
-use Rattle.algebras.specs.Hearing.{answered}
 use Rattle.algebras.specs.Transient.{Transient}
 use Rattle.algebras.proofs.Prefixes.{Prefixes}
 use Rattle.nets.specs.Wires.{Plain, transient}
-use Rattle.nets.specs.Arrivals.{wire-at, drive-of, pins-of, pin-count, pin-wire, Lower, function-of, State, rest, makes, hears, answers, Step, moves, arrives, loses, Allowed, after, Allowed-all, after-all, Order, ending}
+use Rattle.nets.specs.Arrivals.{wire-at, drive-of, pin-count, pin-wire, Lower, State, rest, makes, hears, answers, Step, moves, arrives, loses, Allowed, after, Allowed-all, after-all, Order, ending}
 use Rattle.nets.proofs.Wiring.{start-of-transient}
-use Rattle.nets.proofs.Heard.{heard-at, heard-of, pin-transients, transient-for, for-grows, for-drive, for-answer, prefixes-places, transient-pins, makes-same, makes-other, makes-grows, hears-same, hears-other, hears-other-pin, hears-grows, answers-heard, answers-heard-of, answers-other, answers-grows, answers-same}
+use Rattle.nets.proofs.Heard.{heard-at, heard-of, transient-for, for-grows, for-drive, for-answer, prefixes-places, transient-pins, makes-same, makes-other, makes-grows, hears-same, hears-other, hears-other-pin, hears-grows, answers-heard, answers-heard-of, answers-other, answers-grows, answers-same}
 
 -- What every order keeps: no pin has heard more than its wire has made, and no wire has made more than what its pins have
 -- heard allows.

@@ -1,8 +1,7 @@
 -- What the pins of a gate in a net have heard, as transients, and what the gate's wire makes of them.
 use mathlib.Core.Path.{_≡_, refl, sym, ap, _∙_}
 use mathlib.Core.Bool.{Bool, true, false, cond, _&&_}
-use mathlib.Core.Logic.{inl, inr}
-use mathlib.Core.List.{List, [], _∷_, map, map-map}
+use mathlib.Core.List.{List, map, map-map}
 use Prim.Native.Nat.{ℕ, zero, suc, _+_, _≤_, _<_}
 use native.Mathlib.Omega.{arith}
 use lib.Dec.{eqb}
@@ -10,8 +9,8 @@ use lib.ListN.{length, getD}
 use Rattle.std.specs.Iters.{counting}
 use Rattle.std.proofs.shelf.Counted.{fill-by-all}
 use Rattle.std.proofs.shelf.Lists.{length-map, getD-map}
-use Rattle.std.proofs.shelf.Tests.{cases-eq, eq-eqb, ne-eqb, and-from, and-left, and-right}
-use Rattle.algebras.specs.Kinds.{gate-transient, gate-function}
+use Rattle.std.proofs.shelf.Tests.{eq-eqb, ne-eqb, and-from, and-left, and-right}
+use Rattle.algebras.specs.Kinds.{gate-transient}
 use Rattle.algebras.specs.Sums.{starts, ends, differ}
 use Rattle.algebras.specs.Hearing.{answered}
 use Rattle.algebras.specs.Transient.{Transient, driven, end-of, zero-word, flipped}

@@ -4,3 +4,4 @@ pub mod Bounds
 pub mod Turns
 pub mod Serving
 pub mod LongestHistories
+pub mod Examples

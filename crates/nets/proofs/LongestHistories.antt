@@ -11,12 +11,11 @@ use Rattle.std.proofs.shelf.Tests.{cases-lt}
 use Rattle.algebras.specs.Transient.{Transient, letters, word}
 use Rattle.algebras.proofs.Words.{same-transient}
 use Rattle.nets.specs.Wires.{Plain, input, transient}
-use Rattle.nets.specs.Arrivals.{wire-at, drive-of, pins-of, pin-count, pin-wire, Lower, start-of, State, Step, Order, ending, history, Longest, Serves-in-turn, Begins, Longest-in-turn}
+use Rattle.nets.specs.Arrivals.{wire-at, drive-of, pins-of, pin-count, pin-wire, Lower, start-of, State, Step, ending, history, Longest, Serves-in-turn, Begins, Longest-in-turn}
 use Rattle.nets.specs.Histories.{Longest-histories}
 use Rattle.nets.proofs.Wiring.{start-of-transient}
 use Rattle.nets.proofs.Heard.{pin-transients, transient-for, for-drive, transient-pins}
 use Rattle.nets.proofs.Bounds.{order-within}
-use Rattle.nets.proofs.Turns.{Comes-to}
 use Rattle.nets.proofs.Serving.{Turn-of, turns}
 
 -- Past the wires of a net there is an input that has no changes to make.

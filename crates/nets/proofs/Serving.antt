@@ -1,11 +1,11 @@
 -- Serving the gates of a net one after another, so that every wire makes all changes of its transient.
 use mathlib.Core.Path.{_≡_, refl, sym, ap, subst, _∙_}
-use mathlib.Core.Bool.{Bool, false}
+use mathlib.Core.Bool.{false}
 use mathlib.Core.Logic.{_⊎_, inl, inr}
-use mathlib.Core.List.{List, [], _∷_, map, map-map}
+use mathlib.Core.List.{List, map, map-map}
 use Prim.Native.Nat.{ℕ, zero, suc, _+_, _≤_, _<_}
 use native.Mathlib.Omega.{arith}
-use lib.ListN.{length, getD}
+use lib.ListN.{length}
 use Rattle.std.specs.Iters.{counting}
 use Rattle.std.proofs.shelf.Counted.{length-map-counting, getD-map-counting}
 use Rattle.std.proofs.shelf.Lists.{length-map, getD-map, getD-past}
@@ -17,9 +17,9 @@ use Rattle.algebras.proofs.Answering.{all-reached}
 use Rattle.algebras.proofs.EveryKind.{gate-longest}
 use Rattle.algebras.proofs.Words.{same-transient}
 use Rattle.nets.specs.Wires.{Plain, input, gate, transient}
-use Rattle.nets.specs.Arrivals.{wire-at, drive-of, pins-of, pin-count, pin-wire, Lower, function-of, start-of, State, rest, makes, hears, answers, Step, moves, arrives, loses, Allowed, after, Order, ending, Serves-in-turn}
+use Rattle.nets.specs.Arrivals.{wire-at, drive-of, pins-of, pin-count, pin-wire, Lower, function-of, State, rest, makes, hears, answers, moves, arrives, Allowed}
 use Rattle.nets.proofs.Wiring.{start-of-transient}
-use Rattle.nets.proofs.Heard.{heard-at, heard-of, pin-transients, transient-for, for-drive, transient-pins, makes-same, makes-other, hears-same, hears-other, hears-other-pin, answers-heard, answers-heard-of, answers-other, answers-same}
+use Rattle.nets.proofs.Heard.{heard-at, heard-of, pin-transients, transient-for, transient-pins, makes-same, makes-other, hears-same, hears-other, hears-other-pin, answers-heard, answers-heard-of, answers-other, answers-same}
 use Rattle.nets.proofs.Turns.{Comes-to, comes-rest, comes-also, comes-next}
 
 -- Functions that agree from a on give the same list from a on.

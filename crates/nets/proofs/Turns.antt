@@ -1,7 +1,7 @@
 -- Orders that take one step more, in turn and losing no pulse.
 use mathlib.Core.Path.{_≡_, refl, sym, subst}
 use mathlib.Core.List.{List, [], _∷_, _++_}
-use Prim.Native.Nat.{ℕ, zero, suc, _≤_, _<_}
+use Prim.Native.Nat.{ℕ, _≤_}
 use native.Mathlib.Omega.{arith}
 use Rattle.nets.specs.Wires.{Plain}
 use Rattle.nets.specs.Arrivals.{State, rest, Step, moves, arrives, loses, Allowed, after, Allowed-all, after-all, Order, ending, turn, In-turn, Loses-none}

@@ -1,19 +1,20 @@
 -- The transients of a plain net, wire by wire, and the starts of its wires.
-use mathlib.Core.Path.{_≡_, refl, sym, ap, _∙_}
+use mathlib.Core.Path.{_≡_, refl, sym, ap, subst, _∙_}
 use mathlib.Core.Bool.{Bool, false}
 use mathlib.Core.Logic.{inl, inr}
-use mathlib.Core.List.{List, [], _∷_, _++_, map, map-map}
+use mathlib.Core.List.{List, [], _∷_, _++_, map}
 use Prim.Native.Nat.{ℕ, zero, suc, _+_, _≤_, _<_}
 use native.Mathlib.Omega.{arith}
+use lib.Dec.{leb}
 use lib.ListN.{length, getD, take, drop}
-use Rattle.std.proofs.shelf.Lists.{append-nil, append-assoc, map-push, length-append, length-push, length-take-le, take-append-drop, take-at, drop-more, getD-append-left, getD-at, getD-past, getD-take}
-use Rattle.std.proofs.shelf.Tests.{cases-lt}
+use Rattle.std.proofs.shelf.Lists.{append-nil, append-assoc, map-push, length-push, length-take-le, take-append-drop, take-at, drop-more, getD-append-left, getD-at, getD-past, getD-push, getD-take}
+use Rattle.std.proofs.shelf.Tests.{cases-eq, cases-lt, leb-false, or-parts}
 use Rattle.algebras.specs.Kinds.{gate-function, gate-transient}
-use Rattle.algebras.specs.Sums.{starts}
+use Rattle.algebras.specs.Sums.{starts, or-of}
 use Rattle.algebras.specs.Transient.{Transient, zero-word}
 use Rattle.algebras.proofs.EveryKind.{gate-start}
 use Rattle.nets.specs.Wires.{Plain, input, gate, transient-after, transients-after, transients, transient}
-use Rattle.nets.specs.Arrivals.{wire-at, pins-of, pin-count, pin-wire, Lower, function-of, starts-after, start-of}
+use Rattle.nets.specs.Arrivals.{wire-at, pins-of, Lower, function-of, starts-after, start-of}
 
 -- Wires worked after others.
 pub transients-after-append : (ts : List Transient) (us ws : List Plain) → transients-after ts (us ++ ws) ≡ transients-after (transients-after ts us) ws
@@ -127,3 +128,30 @@ starts-after-transients ts (w ∷ ws) =
 pub start-of-transient : (net : List Plain) (w : ℕ) → start-of net w ≡ transient net w .start
 start-of-transient net w =
     ap (λ (bs : List Bool). getD bs w false) (starts-after-transients [] net) ∙ getD-starts (transients net) w
+
+-- In a net without wires pins name lower wires.
+pub lower-none : Lower []
+lower-none w i l = absurd (omega arith)
+
+-- A net stays one whose pins name lower wires where the pins of one wire more name standing wires.
+pub lower-push : (net : List Plain) (p : Plain) → Lower net → ((i : ℕ) → i < length (pins-of p) → getD (pins-of p) i 0 < length net)
+  → Lower (net ++ p ∷ [])
+lower-push net p lower l w i k =
+    elim (cases-lt w (length net)) [
+      inl m ↦
+        let e = getD-append-left net (p ∷ []) (input false 0) w m in
+        subst (λ (q : Plain). i < length (pins-of q) → getD (pins-of q) i 0 < w) (sym e) (lower w i) k
+    | inr m ↦ elim (cases-eq (length net) w) [
+          inl e ↦
+            let h : i < length (pins-of p) → getD (pins-of p) i 0 < w = λ b. (let c = l i b in omega arith) in
+            subst (λ (q : Plain). i < length (pins-of q) → getD (pins-of q) i 0 < w) (sym (getD-push net p (input false 0) w e)) h k
+        | inr d ↦
+            let n = length-push net p in
+            let z = ap (λ (q : Plain). length (pins-of q)) (getD-past (net ++ p ∷ []) w (input false 0) (omega arith)) in
+            absurd (omega arith) ] ]
+
+-- Pins of which none is too high name wires below n.
+pub pins-below : (n : ℕ) (ps : List ℕ) → or-of (map (leb n) ps) ≡ false → (i : ℕ) → i < length ps → getD ps i 0 < n
+pins-below n [] e i l = absurd (omega arith)
+pins-below n (p ∷ ps) e zero l = leb-false n p (or-parts (leb n p) (or-of (map (leb n) ps)) e .0)
+pins-below n (p ∷ ps) e (suc i) l = pins-below n ps (or-parts (leb n p) (or-of (map (leb n) ps)) e .1) i (omega arith)
