@@ -103,7 +103,7 @@ within-after net lower s (loses w i) (p, l) k =
       heard-few = λ v j. (let a = hears-same w i s in hears-few net w i (hears w i s) f (omega arith) v j);
       made-few = hears-made net w i (hears w i s) (hears-made net w i s (k .made-few)) }
 
--- Steps that are allowed in turn keep it.
+-- So do several steps, each allowed where it comes.
 pub within-all : (net : List Plain) → Lower net → (s : State) (xs : List Step) → Allowed-all net s xs → Within net s → Within net (after-all net s xs)
 within-all net lower s [] a k = k
 within-all net lower s (x ∷ xs) a k = within-all net lower (after net s x) xs (a .1) (within-after net lower s x (a .0) k)
@@ -114,7 +114,11 @@ within-below net lower s k zero w l = absurd (omega arith)
 within-below net lower s k (suc b) w l =
     let f = prefixes-places (heard-at net s w) (λ i. transient net (pin-wire net w i)) 0 (pin-count net w)
         (λ i m. start-of-transient net (pin-wire net w i))
-        (λ i m. (let p = lower w i (omega arith) in let h = k .heard-few w i in let u = within-below net lower s k b (pin-wire net w i) (omega arith) in omega arith)) in
+        (λ i m.
+          (let p = lower w i (omega arith) in
+           let h = k .heard-few w i in
+           let u = within-below net lower s k b (pin-wire net w i) (omega arith) in
+           omega arith)) in
     let g = for-grows (wire-at net w) f in
     let m = k .made-few w in
     let e = ap (λ (t : Transient). t .changes) (transient-pins net lower w) in

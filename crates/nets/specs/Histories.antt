@@ -14,4 +14,4 @@ use Rattle.nets.specs.Arrivals.{Lower, Longest, Longest-in-turn}
 pub record Longest-histories : Type 0 where
   pub in-turn : (net : List Plain) → Lower net → Longest-in-turn net
   pub by-transients : (net : List Plain) → Lower net → (w : ℕ) → w < length net → (h : List Bool)
-    → Longest net w h ↔ (h ≡ word (transient net w))
+      → Longest net w h ↔ (h ≡ word (transient net w))
