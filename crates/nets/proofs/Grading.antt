@@ -12,6 +12,7 @@ use Rattle.algebras.specs.Kinds.{gate-transient}
 use Rattle.algebras.specs.Sums.{joined, sum, product, exclusive, sum2, product2, exclusive2, Joins}
 use Rattle.algebras.specs.Transient.{Transient, complement, zero-word}
 use Rattle.algebras.proofs.Sums.{sums-of-transients}
+use Rattle.nets.proofs.Wiring.{transients-push}
 use Rattle.nets.specs.Wires.{Plain, input, gate, Below, Within, transient-after, transients-after, transients, transient}
 use Rattle.nets.specs.Working.{joins, gives, gate-grade, entry, entries, worked, Kept}
 
@@ -68,12 +69,6 @@ module _ {X G : Type 0} (L : Ghosts X G) (a : X) (laws : Lawful L a) where
   gate-grades Nor x xs = ap (L .complements a) (sum-grade x xs) ∙ laws .complements-grade (sum (x ∷ xs))
   gate-grades Xnor x xs = ap (L .complements a) (exclusive-grade x xs) ∙ laws .complements-grade (exclusive (x ∷ xs))
 
--- One wire more is worked after the others.
-pub transients-push : (ts : List Transient) (ws : List Plain) (w : Plain)
-  → transients-after ts (ws ++ w ∷ []) ≡ transients-after ts ws ++ transient-after (transients-after ts ws) w ∷ []
-transients-push ts [] w = refl
-transients-push ts (v ∷ ws) w = transients-push (ts ++ transient-after ts v ∷ []) ws w
-
 module _ {X G : Type 0} (L : Ghosts X G) (a : X) (n : ℕ) (column : List G) (ts : List Transient) (kept : take n column ≡ map (L .grade a) ts) where
   -- An entry of a kept column is the grade of a transient.
   pub entry-kept : (w : ℕ) → w < n → entry L a column w ≡ L .grade a (getD ts w zero-word)
@@ -107,7 +102,7 @@ kept-push L a laws ws w column within long kept =
     ∙ ap (λ c. c ++ worked L a column w ∷ []) kept
     ∙ ap (λ g. map (L .grade a) (transients ws) ++ g ∷ []) (worked-kept L a (length ws) column (transients ws) kept laws w within)
     ∙ sym (map-push (L .grade a) (transients ws) (transient-after (transients ws) w))
-    ∙ sym (ap (map (L .grade a)) (transients-push [] ws w))
+    ∙ sym (ap (map (L .grade a)) (transients-push ws w))
 
 -- In a kept column, the entry of a standing wire is the grade of its transient.
 pub standing-kept : {X G : Type 0} (L : Ghosts X G) (a : X) (ws : List Plain) (column : List G) → Kept L a ws column → (w : ℕ) → w < length ws → entry L a column w ≡ L .grade a (transient ws w)

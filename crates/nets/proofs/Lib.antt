@@ -5,3 +5,10 @@ pub mod Grading
 pub mod Decodings
 pub mod Readings
 pub mod Outcomes
+pub mod Wiring
+pub mod Heard
+pub mod Bounds
+pub mod Turns
+pub mod Serving
+pub mod LongestHistories
+pub mod Examples

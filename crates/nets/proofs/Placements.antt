@@ -26,18 +26,6 @@ pub within-below : (n : ℕ) (w : Plain) → Within n w → Below n (pins-of w)
 within-below n (input b c) h k within = absurd (omega arith)
 within-below n (gate kind ps) h k within = h .1 k within
 
--- One wire more, with lower pins.
-pub lower-push : (ws : List Plain) (w : Plain) → Lower ws → Within (length ws) w → Lower (ws ++ w ∷ [])
-lower-push ws w low within i k standing pin = ⊎-elim old new (cases-lt i (length ws))
-  where
-    old : i < length ws → getD (pins-of (getD (ws ++ w ∷ []) i (input false 0))) k 0 < i
-    old h = subst (λ (x : Plain). k < length (pins-of x) → getD (pins-of x) k 0 < i) (sym (getD-append-left ws (w ∷ []) (input false 0) i h)) (low i k h) pin
-    new : length ws ≤ i → getD (pins-of (getD (ws ++ w ∷ []) i (input false 0))) k 0 < i
-    new h =
-        let e : length ws ≡ i = omega (arith, length-push ws w) in
-        subst (λ (x : Plain). k < length (pins-of x) → getD (pins-of x) k 0 < i) (sym (getD-push ws w (input false 0) i e))
-        (subst (λ (n : ℕ). Below n (pins-of w)) e (within-below (length ws) w within) k) pin
-
 -- The wires of a table, one more.
 pub wires-push : (vs us : List Wire) (v : Wire) → us ≡ vs ++ v ∷ [] → map plain us ≡ map plain vs ++ plain v ∷ []
 wires-push vs us v e = ap (map plain) e ∙ map-push plain vs v

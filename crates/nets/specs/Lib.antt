@@ -6,3 +6,5 @@ pub mod Records
 pub mod Nets
 pub mod Asking
 pub mod Decoding
+pub mod Arrivals
+pub mod Histories

@@ -35,14 +35,18 @@ abbrev pub Within : ℕ → Plain → Type 0
 Within n (input b c) = Unit {0}
 Within n (gate k ps) = (0 < length ps) × Below n ps
 
--- The pins of a wire; an input has none.
+-- Wire w of a net; where there is none, an input that has no changes to make.
+abbrev pub wire-at : List Plain → ℕ → Plain
+wire-at net w = getD net w (input false 0)
+
+-- The wires that the pins of a gate name, from its first pin on; an input has no pins.
 abbrev pub pins-of : Plain → List ℕ
 pins-of (input b n) = []
 pins-of (gate k ps) = ps
 
--- Every pin of a net names a wire of lower number.
+-- Pins name lower wires: there is no feedback.
 abbrev pub Lower : List Plain → Type 0
-Lower ws = (w k : ℕ) → w < length ws → k < length (pins-of (getD ws w (input false 0))) → getD (pins-of (getD ws w (input false 0))) k 0 < w
+Lower net = (w k : ℕ) → k < length (pins-of (wire-at net w)) → getD (pins-of (wire-at net w)) k 0 < w
 
 -- The transient of a wire, after those of the wires before it.
 abbrev pub transient-after : List Transient → Plain → Transient

@@ -7,7 +7,8 @@ use Rattle.nets.specs.Wires.{plain, Lower}
 use Rattle.nets.specs.Nets.{net-wires}
 use Rattle.nets.specs.Working.{Kept}
 use Rattle.nets.proofs.Grading.{Lawful, kept-push}
-use Rattle.nets.proofs.Placements.{lower-push, wires-push}
+use Rattle.nets.proofs.Placements.{within-below, wires-push}
+use Rattle.nets.proofs.Wiring.{lower-push}
 use Rattle.nets.proofs.net.Net.append.Needs as need
 
 pub push-reserved-requires : need.push-reserved-requires
@@ -22,7 +23,7 @@ ghost-self g c =
     let n = v .ok .0 ∙ sym (length-map (vec-items v) plain) in
     let items = wires-push (vec-items v) (vec-items (c .push-reserved .last .self)) (c .args .wire) (c .push-reserved .ensures .items) in
     ((omega (arith, c .push-reserved .ensures .len, c .pre .few), (omega (arith, c .push-reserved .ensures .capacity, c .args .self .now .table .room), tt)),
-    (subst Lower (sym items) (lower-push (net-wires (c .args .self .now)) (plain (c .args .wire)) (c .args .self .now .lower) (c .pre .lower)), tt))
+    (subst Lower (sym items) (lower-push (net-wires (c .args .self .now)) (plain (c .args .wire)) (c .args .self .now .lower) (within-below _ _ (c .pre .lower))), tt))
 
 pub returns : need.returns
 returns g c =

@@ -1,0 +1,10 @@
+//! The theory of arrivals in nets, carried by a function that does nothing else.
+
+ghost use Rattle.nets.specs.Histories.{Longest-histories};
+
+/// The longest history of each wire, in whatever order changes arrive at the pins of a net, is the word of its transient.
+pub fn longest_histories() -> u8
+    ensures { λ _. ⌜ Longest-histories ⌝ }
+{
+    0
+}
