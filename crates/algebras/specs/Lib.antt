@@ -3,3 +3,4 @@ pub mod Sums
 pub mod Kinds
 pub mod Verdicts
 pub mod Counted
+pub mod Five

@@ -2,6 +2,7 @@
 
 pub mod algebra;
 pub mod counted;
+pub mod five;
 pub mod kind;
 pub mod telling;
 pub mod transient;
