@@ -2,3 +2,4 @@ pub mod Words
 pub mod Sums
 pub mod Counts
 pub mod Fives
+pub mod Eights

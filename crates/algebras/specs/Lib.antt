@@ -4,3 +4,4 @@ pub mod Kinds
 pub mod Verdicts
 pub mod Counted
 pub mod Five
+pub mod Eight

@@ -2,6 +2,7 @@
 
 pub mod algebra;
 pub mod counted;
+pub mod eight;
 pub mod five;
 pub mod kind;
 pub mod telling;
