@@ -260,9 +260,13 @@ known-moving-sum cap h x y s e m t f n k l p q =
       → min (((m′ + n′) - bit (s′ && t′)) - bit (e′ && f′)) cap ≡ min (((m + n) - bit (s && t)) - bit (e && f)) cap
     known a b c d e f = cc
 
--- What is known of two transients decides what is known of their sum: this start, this end, this count.
-pub sum-decided : (cap : ℕ) → 2 ≤ cap → (s e : Bool) (m : ℕ) (t f : Bool) (n : ℕ)
-  → (a : Bool) × (b : Bool) × (k : ℕ) × ((x y : Transient) → Known cap x s e m → Known cap y t f n → Known cap (sum2 x y) a b k)
+-- What is known of two transients decides what is known of their operation: this start, this end, this count.
+abbrev pub Decided : ℕ → (Transient → Transient → Transient) → Type 0
+Decided cap op = (s e : Bool) (m : ℕ) (t f : Bool) (n : ℕ)
+  → (a : Bool) × (b : Bool) × (k : ℕ) × ((x y : Transient) → Known cap x s e m → Known cap y t f n → Known cap (op x y) a b k)
+
+-- It decides their sum,
+pub sum-decided : (cap : ℕ) → 2 ≤ cap → Decided cap sum2
 sum-decided cap h true e zero t f n = (true, true, 0, λ x y p q. first x y p)
   where
     first : (x y : Transient) → Known cap x true e 0 → Known cap (sum2 x y) true true 0
@@ -283,14 +287,15 @@ sum-decided cap h s e (suc m) t f (suc n) =
     (s || t, e || f, min (((suc m + suc n) - bit (s && t)) - bit (e && f)) cap,
     λ x y p q. known-moving-sum cap h x y s e (suc m) t f (suc n) p q (omega arith) (omega arith))
 
--- Two transients known alike have sums of one grade.
-pub sum-alike : (cap : ℕ) → 2 ≤ cap → (x y x′ y′ : Transient) (s e : Bool) (m : ℕ) (t f : Bool) (n : ℕ)
-  → Known cap x s e m → Known cap y t f n → Known cap x′ s e m → Known cap y′ t f n → counted cap (sum2 x y) ≡ counted cap (sum2 x′ y′)
-sum-alike cap h x y x′ y′ s e m t f n p q p′ q′ =
-    let d = sum-decided cap h s e m t f n in
-    known-grade cap (sum2 x y) (d .0) (d .1) (d .2) (d .3 x y p q) ∙ sym (known-grade cap (sum2 x′ y′) (d .0) (d .1) (d .2) (d .3 x′ y′ p′ q′))
+-- their product,
+pub product-decided : (cap : ℕ) → 2 ≤ cap → Decided cap product2
+product-decided cap h s e m t f n =
+    let d = sum-decided cap h (not s) (not e) m (not t) (not f) n in
+    (not (d .0), not (d .1), d .2, λ x y p q.
+    known-complement cap (sum2 (complement x) (complement y)) (d .0) (d .1) (d .2)
+    (d .3 (complement x) (complement y) (known-complement cap x s e m p) (known-complement cap y t f n q)))
 
--- What is known of two transients decides what is known of their exclusive sum.
+-- and their exclusive sum.
 pub known-exclusive : (cap : ℕ) (x y : Transient) (s e : Bool) (m : ℕ) (t f : Bool) (n : ℕ)
   → Known cap x s e m → Known cap y t f n → Known cap (exclusive2 x y) (differ s t) (differ e f) (min (m + n) cap)
 known-exclusive cap x y s e m t f n k l =
@@ -302,6 +307,9 @@ known-exclusive cap x y s e m t f n k l =
   where
     capped : (A B m n : ℕ) → min A cap ≡ m → min B cap ≡ n → min (A + (B + 0)) cap ≡ min (m + n) cap
     capped A B m n p q = omega arith
+
+pub exclusive-decided : (cap : ℕ) → Decided cap exclusive2
+exclusive-decided cap s e m t f n = (differ s t, differ e f, min (m + n) cap, λ x y p q. known-exclusive cap x y s e m t f n p q)
 
 -- A test of numbers is that of others that are equal exactly then.
 pub same-test : (a b c d : ℕ) → (a ≡ b → c ≡ d) → (c ≡ d → a ≡ b) → eqb a b ≡ eqb c d
@@ -329,47 +337,64 @@ known-verdict cap h t s e n k =
     zero-from : (c n : ℕ) → min c cap ≡ n → n ≡ 0 → c ≡ 0
     zero-from c n p q = omega arith
 
+-- A grade that what is known decides, where each transient's grade stands for one that is known as it is.
+module _ (cap : ℕ) {G : Type 0} (grade : Transient → G) (of : Bool → Bool → ℕ → G)
+    (decides : (t : Transient) (s e : Bool) (n : ℕ) → Known cap t s e n → grade t ≡ of s e n)
+    (stands : G → Transient) (known : (t : Transient) → Known cap (stands (grade t)) (t .start) (end-of t) (min (t .changes) cap)) where
+
+  -- What a transient's grade stands for has that grade,
+  pub graded-stands : (t : Transient) → grade (stands (grade t)) ≡ grade t
+  graded-stands t =
+      let n : ℕ = min (t .changes) cap in
+      decides (stands (grade t)) (t .start) (end-of t) n (known t) ∙ sym (decides t (t .start) (end-of t) n (itself-known cap t))
+
+  -- its complement has that of the complement,
+  pub graded-complement : (t : Transient) → grade (complement (stands (grade t))) ≡ grade (complement t)
+  graded-complement t =
+      let n : ℕ = min (t .changes) cap in
+      decides (complement (stands (grade t))) (not (t .start)) (not (end-of t)) n (known-complement cap (stands (grade t)) (t .start) (end-of t) n (known t))
+      ∙ sym (decides (complement t) (not (t .start)) (not (end-of t)) n (known-complement cap t (t .start) (end-of t) n (itself-known cap t)))
+
+  -- a decided operation on such has that of the operation,
+  pub graded-operation : (op : Transient → Transient → Transient) → Decided cap op → (s t : Transient) → grade (op (stands (grade s)) (stands (grade t))) ≡ grade (op s t)
+  graded-operation op decided s t =
+      let d = decided (s .start) (end-of s) (min (s .changes) cap) (t .start) (end-of t) (min (t .changes) cap) in
+      decides (op (stands (grade s)) (stands (grade t))) (d .0) (d .1) (d .2) (d .3 (stands (grade s)) (stands (grade t)) (known s) (known t))
+      ∙ sym (decides (op s t) (d .0) (d .1) (d .2) (d .3 s t (itself-known cap s) (itself-known cap t)))
+
+  -- the product of entries is worked by the complements of entries and their sum,
+  pub graded-product : 2 ≤ cap → (x y : G)
+    → grade (complement (stands (grade (sum2 (stands (grade (complement (stands x)))) (stands (grade (complement (stands y)))))))) ≡ grade (product2 (stands x) (stands y))
+  graded-product h x y =
+      ap (λ (g : G). grade (complement (stands g))) (graded-operation sum2 (sum-decided cap h) (complement (stands x)) (complement (stands y)))
+      ∙ graded-complement (sum2 (complement (stands x)) (complement (stands y)))
+
+  -- and the verdict on what the grade stands for is that on the transient.
+  pub graded-verdict : 2 ≤ cap → (t : Transient) → verdict-of (stands (grade t)) ≡ verdict-of t
+  graded-verdict h t =
+      let n : ℕ = min (t .changes) cap in
+      known-verdict cap h (stands (grade t)) (t .start) (end-of t) n (known t) ∙ sym (known-verdict cap h t (t .start) (end-of t) n (itself-known cap t))
+
 -- A transient's grade stands for a transient of that grade.
 pub grade-stands : (cap : ℕ) (t : Transient) → counted cap (stands-for cap (counted cap t)) ≡ counted cap t
-grade-stands cap t =
-    known-grade cap (stands-for cap (counted cap t)) (t .start) (end-of t) (min (t .changes) cap) (grade-known cap t)
-    ∙ sym (known-grade cap t (t .start) (end-of t) (min (t .changes) cap) (itself-known cap t))
+grade-stands cap = graded-stands cap (counted cap) (of-changes cap) (known-grade cap) (stands-for cap) (grade-known cap)
 
 -- The same of complements, sums, products and exclusive sums.
 pub complement-grades : (cap : ℕ) (t : Transient) → counted cap (complement (stands-for cap (counted cap t))) ≡ counted cap (complement t)
-complement-grades cap t =
-    let n : ℕ = min (t .changes) cap in
-    known-grade cap (complement (stands-for cap (counted cap t))) (not (t .start)) (not (end-of t)) n (known-complement cap (stands-for cap (counted cap t)) (t .start) (end-of t) n (grade-known cap t))
-    ∙ sym (known-grade cap (complement t) (not (t .start)) (not (end-of t)) n (known-complement cap t (t .start) (end-of t) n (itself-known cap t)))
+complement-grades cap = graded-complement cap (counted cap) (of-changes cap) (known-grade cap) (stands-for cap) (grade-known cap)
+
+pub operation-grades : (cap : ℕ) (op : Transient → Transient → Transient) → Decided cap op
+  → (s t : Transient) → counted cap (op (stands-for cap (counted cap s)) (stands-for cap (counted cap t))) ≡ counted cap (op s t)
+operation-grades cap = graded-operation cap (counted cap) (of-changes cap) (known-grade cap) (stands-for cap) (grade-known cap)
 
 pub sum-grades : (cap : ℕ) → 2 ≤ cap → (s t : Transient) → counted cap (sum2 (stands-for cap (counted cap s)) (stands-for cap (counted cap t))) ≡ counted cap (sum2 s t)
-sum-grades cap h s t =
-    sum-alike cap h (stands-for cap (counted cap s)) (stands-for cap (counted cap t)) s t
-    (s .start) (end-of s) (min (s .changes) cap) (t .start) (end-of t) (min (t .changes) cap)
-    (grade-known cap s) (grade-known cap t) (itself-known cap s) (itself-known cap t)
-
-pub product-alike : (cap : ℕ) → 2 ≤ cap → (x y x′ y′ : Transient) (s e : Bool) (m : ℕ) (t f : Bool) (n : ℕ)
-  → Known cap x s e m → Known cap y t f n → Known cap x′ s e m → Known cap y′ t f n → counted cap (product2 x y) ≡ counted cap (product2 x′ y′)
-product-alike cap h x y x′ y′ s e m t f n p q p′ q′ =
-    let d = sum-decided cap h (not s) (not e) m (not t) (not f) n in
-    let k = known-complement cap (sum2 (complement x) (complement y)) (d .0) (d .1) (d .2) (d .3 (complement x) (complement y) (known-complement cap x s e m p) (known-complement cap y t f n q)) in
-    let k′ = known-complement cap (sum2 (complement x′) (complement y′)) (d .0) (d .1) (d .2) (d .3 (complement x′) (complement y′) (known-complement cap x′ s e m p′) (known-complement cap y′ t f n q′)) in
-    known-grade cap (product2 x y) (not (d .0)) (not (d .1)) (d .2) k ∙ sym (known-grade cap (product2 x′ y′) (not (d .0)) (not (d .1)) (d .2) k′)
+sum-grades cap h = operation-grades cap sum2 (sum-decided cap h)
 
 pub product-grades : (cap : ℕ) → 2 ≤ cap → (s t : Transient) → counted cap (product2 (stands-for cap (counted cap s)) (stands-for cap (counted cap t))) ≡ counted cap (product2 s t)
-product-grades cap h s t =
-    product-alike cap h (stands-for cap (counted cap s)) (stands-for cap (counted cap t)) s t
-    (s .start) (end-of s) (min (s .changes) cap) (t .start) (end-of t) (min (t .changes) cap)
-    (grade-known cap s) (grade-known cap t) (itself-known cap s) (itself-known cap t)
+product-grades cap h = operation-grades cap product2 (product-decided cap h)
 
 pub exclusive-grades : (cap : ℕ) (s t : Transient) → counted cap (exclusive2 (stands-for cap (counted cap s)) (stands-for cap (counted cap t))) ≡ counted cap (exclusive2 s t)
-exclusive-grades cap s t =
-    let m : ℕ = min (s .changes) cap in
-    let n : ℕ = min (t .changes) cap in
-    known-grade cap (exclusive2 (stands-for cap (counted cap s)) (stands-for cap (counted cap t))) (differ (s .start) (t .start)) (differ (end-of s) (end-of t)) (min (m + n) cap)
-    (known-exclusive cap (stands-for cap (counted cap s)) (stands-for cap (counted cap t)) (s .start) (end-of s) m (t .start) (end-of t) n (grade-known cap s) (grade-known cap t))
-    ∙ sym (known-grade cap (exclusive2 s t) (differ (s .start) (t .start)) (differ (end-of s) (end-of t)) (min (m + n) cap)
-    (known-exclusive cap s t (s .start) (end-of s) m (t .start) (end-of t) n (itself-known cap s) (itself-known cap t)))
+exclusive-grades cap = operation-grades cap exclusive2 (exclusive-decided cap)
 
 -- An entry as read: its start, its end, its count.
 pub read-is : (cap : ℕ) (x : CountedGrade) → counted-read cap x ≡ of-changes cap (x .start) (x .«end») (count-of cap x)
@@ -463,14 +488,11 @@ verdict-is cap h x = known-verdict cap h (stands-for cap x) (x .start) (x .«end
 pub verdict-told : (cap : ℕ) → 2 ≤ cap → (x : CountedGrade) (t : Transient) → x ≡ counted cap t → verdict-of (stands-for cap x) ≡ verdict-of t
 verdict-told cap h x t e =
     ap (λ (g : CountedGrade). verdict-of (stands-for cap g)) e
-    ∙ known-verdict cap h (stands-for cap (counted cap t)) (t .start) (end-of t) (min (t .changes) cap) (grade-known cap t)
-    ∙ sym (known-verdict cap h t (t .start) (end-of t) (min (t .changes) cap) (itself-known cap t))
+    ∙ graded-verdict cap (counted cap) (of-changes cap) (known-grade cap) (stands-for cap) (grade-known cap) h t
 
 -- The product of entries, by the complements of entries and their sum.
 pub product-is : (cap : ℕ) → 2 ≤ cap → (x y : CountedGrade) → counted-complement cap (counted-sum cap (counted-complement cap x) (counted-complement cap y)) ≡ counted-product cap x y
-product-is cap h x y =
-    ap (counted-complement cap) (sum-grades cap h (complement (stands-for cap x)) (complement (stands-for cap y)))
-    ∙ complement-grades cap (sum2 (complement (stands-for cap x)) (complement (stands-for cap y)))
+product-is cap = graded-product cap (counted cap) (of-changes cap) (known-grade cap) (stands-for cap) (grade-known cap)
 
 -- A letter as the code's number.
 pub byte-bit : (b : Bool) → boolByte b ≡ bit b

@@ -6,3 +6,5 @@ pub mod Answering
 pub mod LastChanges
 pub mod SumChanges
 pub mod EveryKind
+pub mod Fives
+pub mod Eights

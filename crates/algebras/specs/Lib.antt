@@ -4,3 +4,5 @@ pub mod Kinds
 pub mod Verdicts
 pub mod Counted
 pub mod Hearing
+pub mod Five
+pub mod Eight

@@ -2,6 +2,8 @@
 
 pub mod algebra;
 pub mod counted;
+pub mod eight;
+pub mod five;
 pub mod hearing;
 pub mod kind;
 pub mod telling;
