@@ -46,23 +46,25 @@ differ-not false = refl
 pub answer-within : (b v : Bool) (m n : ℕ) → flipped b n ≡ v → m ≤ n → cond (differ v (flipped b m)) (suc m) m ≤ n
 answer-within b v m n e l =
     elim (cases-eq m n) [
-      inl q ↦
-        let d : differ v (flipped b m) ≡ false = rw (q, e) (differ-self v) in
-        rw d l
-    | inr q ↦ cond-both (differ v (flipped b m)) (suc m) m (λ x. x ≤ n) (λ _. omega arith) (λ _. l) ]
+      | inl q ↦
+          let d : differ v (flipped b m) ≡ false = rw (q, e) (differ-self v) in
+          rw d l
+      | inr q ↦ cond-both (differ v (flipped b m)) (suc m) m (λ x. x ≤ n) (λ _. omega arith) (λ _. l)
+    ]
 
 -- If n flips give the value and m is n or one less, an output that made m changes has made n once it has answered.
 pub answer-exact : (b v : Bool) (m n : ℕ) → flipped b n ≡ v → m ≤ n → n ≤ suc m → cond (differ v (flipped b m)) (suc m) m ≡ n
 answer-exact b v m n e l u =
     elim (cases-eq m n) [
-      inl q ↦
-        let d : differ v (flipped b m) ≡ false = rw (q, e) (differ-self v) in
-        rw d q
-    | inr q ↦
-        let s : n ≡ suc m = omega arith in
-        let w : not (flipped b m) ≡ v = rw s at e in
-        let d : differ v (flipped b m) ≡ true = rw (← w) (differ-not (flipped b m)) in
-        rw d (sym s) ]
+      | inl q ↦
+          let d : differ v (flipped b m) ≡ false = rw (q, e) (differ-self v) in
+          rw d q
+      | inr q ↦
+          let s : n ≡ suc m = omega arith in
+          let w : not (flipped b m) ≡ v = rw s at e in
+          let d : differ v (flipped b m) ≡ true = rw (← w) (differ-not (flipped b m)) in
+          rw d (sym s)
+    ]
 
 module _ {f : List Bool → Bool} {G : List Transient → Transient} (r : Longest-for f G) where
   -- An output that has made no more changes than the transient of what was heard still has made no more once it has answered
@@ -86,7 +88,7 @@ pub record Within (G : List Transient → Transient) (xs hs : List Transient) (m
 
 -- Whatever arrives and is lost, the output makes no more changes than the transient of what was heard.
 pub heard-within : {f : List Bool → Bool} {G : List Transient → Transient} → Longest-for f G → {xs hs : List Transient} {made lost : ℕ}
-  → Heard-to f xs hs made lost → Within G xs hs made
+    → Heard-to f xs hs made lost → Within G xs hs made
 heard-within r {xs} rests = record { heard = rest-prefixes xs; few = omega arith }
 heard-within r (arrives {hs} {made} i h l) =
     let w = heard-within r h in
@@ -100,7 +102,7 @@ heard-within r (loses {hs} i h l) =
 
 -- Whatever arrives and is lost, the output makes no more changes than its transient has.
 pub heard-bounded : {f : List Bool → Bool} {G : List Transient → Transient} → Longest-for f G → {xs hs : List Transient} {made lost : ℕ}
-  → Heard-to f xs hs made lost → made ≤ G xs .changes
+    → Heard-to f xs hs made lost → made ≤ G xs .changes
 heard-bounded r h =
     let w = heard-within r h in
     let g = r .grows (w .heard) in
@@ -127,8 +129,8 @@ module _ {f : List Bool → Bool} {G : List Transient → Transient} (r : Longes
 
   -- Where the last change adds at most one, all changes are made if all were made before it.
   pub reached-next : (i : ℕ) (hs : List Transient) → Prefixes (hears i hs) xs → changes-at hs i < changes-at (hears i hs) i
-    → G (hears i hs) .changes ≤ suc (G hs .changes) → Heard-to f xs hs (G hs .changes) 0
-    → Heard-to f xs (hears i hs) (G (hears i hs) .changes) 0
+      → G (hears i hs) .changes ≤ suc (G hs .changes) → Heard-to f xs hs (G hs .changes) 0
+      → Heard-to f xs (hears i hs) (G (hears i hs) .changes) 0
   reached-next i hs p l u h =
       let k = prefixes-at i p in
       same-heard refl (answer-reaches r (hears-prefixes i hs) u) (arrives i h (omega arith))
@@ -138,19 +140,20 @@ module _ {f : List Bool → Bool} {G : List Transient → Transient} (r : Longes
   heard-reached zero hs p l = reached-rest p (omega arith)
   heard-reached (suc n) hs p l =
       elim (cases-lt 0 (total-changes hs)) [
-        inl m ↦
-          let o = r .heard-last hs m in
-          let i = o .last .pin in
-          let gs = o .last .before in
-          let e = sym (o .last .hearing) in
-          let q = subst (λ ts. Prefixes ts xs) e p in
-          let a = subst (λ ts. changes-at gs i < changes-at ts i) e (o .last .allowed) in
-          let u = subst (λ ts. G ts .changes ≤ suc (G gs .changes)) e (o .falls) in
-          let t = hears-total i gs a in
-          let s = ap total-changes e in
-          let h = heard-reached n gs (prefixes-join (hears-prefixes i gs) q) (omega arith) in
-          subst (λ ts. Heard-to f xs ts (G ts .changes) 0) (o .last .hearing) (reached-next i gs q a u h)
-      | inr z ↦ reached-rest p (omega arith) ]
+        | inl m ↦
+            let o = r .heard-last hs m in
+            let i = o .last .pin in
+            let gs = o .last .before in
+            let e = sym (o .last .hearing) in
+            let q = subst (λ ts. Prefixes ts xs) e p in
+            let a = subst (λ ts. changes-at gs i < changes-at ts i) e (o .last .allowed) in
+            let u = subst (λ ts. G ts .changes ≤ suc (G gs .changes)) e (o .falls) in
+            let t = hears-total i gs a in
+            let s = ap total-changes e in
+            let h = heard-reached n gs (prefixes-join (hears-prefixes i gs) q) (omega arith) in
+            subst (λ ts. Heard-to f xs ts (G ts .changes) 0) (o .last .hearing) (reached-next i gs q a u h)
+        | inr z ↦ reached-rest p (omega arith)
+      ]
 
   -- All changes of all pins can be heard in an order that loses nothing and makes all changes of the transient.
   pub all-reached : Heard-to f xs xs (G xs .changes) 0

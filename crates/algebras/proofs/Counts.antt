@@ -57,8 +57,10 @@ flipped-to s e n = by (flipped s n) e refl
   where
     none : n + 0 ≡ n
     none = omega arith
+
     more : n + 1 ≡ suc n
     more = omega arith
+
     by : (f e : Bool) → flipped s n ≡ f → flipped s (n + bit (differ f e)) ≡ e
     by true true p = ap (flipped s) none ∙ p
     by true false p = ap (flipped s) more ∙ ap not p
@@ -75,10 +77,13 @@ stands-count cap g = by (g .«count») refl
   where
     small : (k n b : ℕ) → k ≡ min n cap → n < cap → b ≡ 0 → min (k + b) cap ≡ k
     small k n b e l z = omega arith
+
     large : (k n b : ℕ) → k ≡ min n cap → cap ≤ n → min (k + b) cap ≡ k
     large k n b e l = omega arith
+
     is-said : (k n : ℕ) → k ≡ min n cap → n < cap → k ≡ n
     is-said k n e l = omega arith
+
     half : (h : ℕ) → count-of cap g ≡ min (2 * h + bit (differ (g .start) (g .«end»))) cap → min (stands-for cap g .changes) cap ≡ count-of cap g
     half h e = ⊎-elim below above (cases-lt (2 * h + bit (differ (g .start) (g .«end»))) cap)
       where
@@ -88,8 +93,10 @@ stands-count cap g = by (g .«count») refl
             let f : flipped (g .start) (count-of cap g) ≡ g .«end» = ap (flipped (g .start)) k ∙ flipped-pairs (g .start) (g .«end») h in
             small (count-of cap g) (2 * h + bit (differ (g .start) (g .«end»))) (bit (differ (flipped (g .start) (count-of cap g)) (g .«end»))) e l
             (ap (λ (x : Bool). bit (differ x (g .«end»))) f ∙ ap bit (differ-same (g .«end»)))
+
         above : cap ≤ 2 * h + bit (differ (g .start) (g .«end»)) → min (stands-for cap g .changes) cap ≡ count-of cap g
         above l = large (count-of cap g) (2 * h + bit (differ (g .start) (g .«end»))) (bit (differ (flipped (g .start) (count-of cap g)) (g .«end»))) e l
+
     by : (k : Count) → g .«count» ≡ k → min (stands-for cap g .changes) cap ≡ count-of cap g
     by (Half h) e = half h (ap (λ (k : Count). min (said cap g k) cap) e)
     by Saturated e =
@@ -103,6 +110,7 @@ grade-count cap t = ⊎-elim below above (cases-lt (t .changes) cap)
     below l =
         ap (λ (n : ℕ). min n cap)
         (ap (λ (b : Bool). said cap (counted cap t) (cond b (Half (t .changes / 2)) Saturated)) (lt-ltb (t .changes) cap l) ∙ half-back (t .start) (t .changes))
+
     above : cap ≤ t .changes → min (said cap (counted cap t) (cond (ltb (t .changes) cap) (Half (t .changes / 2)) Saturated)) cap ≡ min (t .changes) cap
     above l =
         let s = ap (λ (b : Bool). said cap (counted cap t) (cond b (Half (t .changes / 2)) Saturated)) (le-ltb (t .changes) cap l) in
@@ -116,6 +124,7 @@ of-changes-capped cap s e m n p = ⊎-elim below above (cases-lt m cap)
     below l =
         let q : m ≡ n = omega arith in
         ap (of-changes cap s e) q
+
     above : cap ≤ m → of-changes cap s e m ≡ of-changes cap s e n
     above l =
         let k : cap ≤ n = omega arith in
@@ -193,7 +202,7 @@ both-small false false = (omega arith, omega arith)
 
 -- Counting up to the cap loses nothing of a sum's changes, in numbers.
 pub capped-sum : (cap A B d e : ℕ) → 2 ≤ cap → d ≤ 1 → e ≤ 1 → d + e ≤ A → d + e ≤ B
-  → min ((A + (B + 0)) - d - e) cap ≡ min ((min A cap + min B cap) - d - e) cap
+    → min ((A + (B + 0)) - d - e) cap ≡ min ((min A cap + min B cap) - d - e) cap
 capped-sum cap A B d e h i j k l = ⊎-elim (λ p. ⊎-elim (both p) (right p) (cases-lt B cap)) left (cases-lt A cap)
   where
     both : A < cap → B < cap → min ((A + (B + 0)) - d - e) cap ≡ min ((min A cap + min B cap) - d - e) cap
@@ -202,6 +211,7 @@ capped-sum cap A B d e h i j k l = ⊎-elim (λ p. ⊎-elim (both p) (right p) (
         let b : min B cap ≡ B = omega arith in
         let s : A + (B + 0) ≡ min A cap + min B cap = omega (arith, a, b) in
         ap (λ (n : ℕ). min (n - d - e) cap) s
+
     right : A < cap → cap ≤ B → min ((A + (B + 0)) - d - e) cap ≡ min ((min A cap + min B cap) - d - e) cap
     right p q =
         let a : min A cap ≡ A = omega arith in
@@ -213,6 +223,7 @@ capped-sum cap A B d e h i j k l = ⊎-elim (λ p. ⊎-elim (both p) (right p) (
       where
         saturates : {m n : ℕ} → cap ≤ m → cap ≤ n → min m cap ≡ min n cap
         saturates x y = omega arith
+
     left : cap ≤ A → min ((A + (B + 0)) - d - e) cap ≡ min ((min A cap + min B cap) - d - e) cap
     left p =
         let a : min A cap ≡ cap = omega arith in
@@ -223,13 +234,14 @@ capped-sum cap A B d e h i j k l = ⊎-elim (λ p. ⊎-elim (both p) (right p) (
       where
         room : (m n : ℕ) → m ≡ cap → d + e ≤ n → cap ≤ (m + n) - d - e
         room m n a b = omega arith
+
         saturates : {m n : ℕ} → cap ≤ m → cap ≤ n → min m cap ≡ min n cap
         saturates x y = omega arith
 
 -- What is known of two moving transients decides what is known of their sum.
 pub known-moving-sum : (cap : ℕ) → 2 ≤ cap → (x y : Transient) (s e : Bool) (m : ℕ) (t f : Bool) (n : ℕ)
-  → Known cap x s e m → Known cap y t f n → 1 ≤ m → 1 ≤ n
-  → Known cap (sum2 x y) (s || t) (e || f) (min (((m + n) - bit (s && t)) - bit (e && f)) cap)
+    → Known cap x s e m → Known cap y t f n → 1 ≤ m → 1 ≤ n
+    → Known cap (sum2 x y) (s || t) (e || f) (min (((m + n) - bit (s && t)) - bit (e && f)) cap)
 known-moving-sum cap h x y s e m t f n k l p q =
     let mx : 1 ≤ x .changes = grows (x .changes) m (k .counts) p in
     let my : 1 ≤ y .changes = grows (y .changes) n (l .counts) q in
@@ -241,11 +253,11 @@ known-moving-sum cap h x y s e m t f n k l p q =
     let small = both-small (x .start) (y .start) in
     let small′ = both-small (end-of x) (end-of y) in
     let changes-are : sum2 x y .changes ≡ ((x .changes + (y .changes + 0)) - bit (x .start && y .start)) - bit (end-of x && end-of y) =
-        ap (λ (r : Transient). r .changes) sum-is
-        ∙ ap (λ (n : ℕ). ((x .changes + (y .changes + 0)) - n) - (bit (end-of x) + (bit (end-of y) + 0) - 1)) d
-        ∙ ap (λ (n : ℕ). ((x .changes + (y .changes + 0)) - bit (x .start && y .start)) - n) g in
+    ap (λ (r : Transient). r .changes) sum-is
+    ∙ ap (λ (n : ℕ). ((x .changes + (y .changes + 0)) - n) - (bit (end-of x) + (bit (end-of y) + 0) - 1)) d
+    ∙ ap (λ (n : ℕ). ((x .changes + (y .changes + 0)) - bit (x .start && y .start)) - n) g in
     let capped = capped-sum cap (x .changes) (y .changes) (bit (x .start && y .start)) (bit (end-of x && end-of y)) h
-        (bit-small (x .start && y .start)) (bit-small (end-of x && end-of y)) (fits cx (small .0) (small′ .0)) (fits cy (small .1) (small′ .1)) in
+    (bit-small (x .start && y .start)) (bit-small (end-of x && end-of y)) (fits cx (small .0) (small′ .0)) (fits cy (small .1) (small′ .1)) in
     record {
       starts = ap (λ (r : Transient). r .start) sum-is ∙ ap (λ (b : Bool). x .start || b) (or-false (y .start)) ∙ ap (λ (b : Bool). b || y .start) (k .starts) ∙ ap (λ (b : Bool). s || b) (l .starts);
       ends = sum-end (x ∷ y ∷ []) ∙ ap (λ (b : Bool). end-of x || b) (or-false (end-of y)) ∙ ap (λ (b : Bool). b || end-of y) (k .ends) ∙ ap (λ (b : Bool). e || b) (l .ends);
@@ -254,16 +266,18 @@ known-moving-sum cap h x y s e m t f n k l p q =
   where
     grows : (c m : ℕ) → min c cap ≡ m → 1 ≤ m → 1 ≤ c
     grows c m e p = omega arith
+
     fits : {a b c d e : ℕ} → a + b ≤ c → d ≤ a → e ≤ b → d + e ≤ c
     fits p q r = omega arith
+
     known : {s′ e′ t′ f′ : Bool} {m′ n′ : ℕ} → s′ ≡ s → e′ ≡ e → m′ ≡ m → t′ ≡ t → f′ ≡ f → n′ ≡ n
-      → min (((m′ + n′) - bit (s′ && t′)) - bit (e′ && f′)) cap ≡ min (((m + n) - bit (s && t)) - bit (e && f)) cap
+        → min (((m′ + n′) - bit (s′ && t′)) - bit (e′ && f′)) cap ≡ min (((m + n) - bit (s && t)) - bit (e && f)) cap
     known a b c d e f = cc
 
 -- What is known of two transients decides what is known of their operation: this start, this end, this count.
 abbrev pub Decided : ℕ → (Transient → Transient → Transient) → Type 0
 Decided cap op = (s e : Bool) (m : ℕ) (t f : Bool) (n : ℕ)
-  → (a : Bool) × (b : Bool) × (k : ℕ) × ((x y : Transient) → Known cap x s e m → Known cap y t f n → Known cap (op x y) a b k)
+    → (a : Bool) × (b : Bool) × (k : ℕ) × ((x y : Transient) → Known cap x s e m → Known cap y t f n → Known cap (op x y) a b k)
 
 -- It decides their sum,
 pub sum-decided : (cap : ℕ) → 2 ≤ cap → Decided cap sum2
@@ -283,21 +297,28 @@ sum-decided cap h s e (suc m) false f zero = (s, e, suc m, λ x y p q. first x y
   where
     first : (x y : Transient) → Known cap x s e (suc m) → Known cap y false f 0 → Known cap (sum2 x y) s e (suc m)
     first x y p q = rw (known-constant cap h y false f q, sum-zero-right x) p
-sum-decided cap h s e (suc m) t f (suc n) =
-    (s || t, e || f, min (((suc m + suc n) - bit (s && t)) - bit (e && f)) cap,
-    λ x y p q. known-moving-sum cap h x y s e (suc m) t f (suc n) p q (omega arith) (omega arith))
+sum-decided cap h s e (suc m) t f (suc n) = (
+  s || t,
+  e || f,
+  min (((suc m + suc n) - bit (s && t)) - bit (e && f)) cap,
+  λ x y p q. known-moving-sum cap h x y s e (suc m) t f (suc n) p q (omega arith) (omega arith),
+)
 
 -- their product,
 pub product-decided : (cap : ℕ) → 2 ≤ cap → Decided cap product2
 product-decided cap h s e m t f n =
-    let d = sum-decided cap h (not s) (not e) m (not t) (not f) n in
-    (not (d .0), not (d .1), d .2, λ x y p q.
-    known-complement cap (sum2 (complement x) (complement y)) (d .0) (d .1) (d .2)
-    (d .3 (complement x) (complement y) (known-complement cap x s e m p) (known-complement cap y t f n q)))
+    let d = sum-decided cap h (not s) (not e) m (not t) (not f) n in (
+      not (d .0),
+      not (d .1),
+      d .2,
+      λ x y p q.
+          known-complement cap (sum2 (complement x) (complement y)) (d .0) (d .1) (d .2)
+          (d .3 (complement x) (complement y) (known-complement cap x s e m p) (known-complement cap y t f n q)),
+    )
 
 -- and their exclusive sum.
 pub known-exclusive : (cap : ℕ) (x y : Transient) (s e : Bool) (m : ℕ) (t f : Bool) (n : ℕ)
-  → Known cap x s e m → Known cap y t f n → Known cap (exclusive2 x y) (differ s t) (differ e f) (min (m + n) cap)
+    → Known cap x s e m → Known cap y t f n → Known cap (exclusive2 x y) (differ s t) (differ e f) (min (m + n) cap)
 known-exclusive cap x y s e m t f n k l =
     record {
       starts = ap (λ (b : Bool). differ (x .start) b) (differ-false (y .start)) ∙ ap (λ (b : Bool). differ b (y .start)) (k .starts) ∙ ap (λ (b : Bool). differ s b) (l .starts);
@@ -317,6 +338,7 @@ same-test a b c d p q = ⊎-elim yes-equal not-equal (cases-bool (eqb a b))
   where
     yes-equal : eqb a b ≡ true → eqb a b ≡ eqb c d
     yes-equal e = e ∙ sym (eq-eqb c d (p (eqb-true a b e)))
+
     not-equal : eqb a b ≡ false → eqb a b ≡ eqb c d
     not-equal e = e ∙ sym (ne-eqb c d (λ r. eqb-false a b e (q r)))
 
@@ -330,10 +352,13 @@ known-verdict cap h t s e n k =
   where
     one-to : (c n : ℕ) → min c cap ≡ n → c ≡ 1 → n ≡ 1
     one-to c n p q = omega arith
+
     one-from : (c n : ℕ) → min c cap ≡ n → n ≡ 1 → c ≡ 1
     one-from c n p q = omega arith
+
     zero-to : (c n : ℕ) → min c cap ≡ n → c ≡ 0 → n ≡ 0
     zero-to c n p q = omega arith
+
     zero-from : (c n : ℕ) → min c cap ≡ n → n ≡ 0 → c ≡ 0
     zero-from c n p q = omega arith
 
@@ -341,7 +366,6 @@ known-verdict cap h t s e n k =
 module _ (cap : ℕ) {G : Type 0} (grade : Transient → G) (of : Bool → Bool → ℕ → G)
     (decides : (t : Transient) (s e : Bool) (n : ℕ) → Known cap t s e n → grade t ≡ of s e n)
     (stands : G → Transient) (known : (t : Transient) → Known cap (stands (grade t)) (t .start) (end-of t) (min (t .changes) cap)) where
-
   -- What a transient's grade stands for has that grade,
   pub graded-stands : (t : Transient) → grade (stands (grade t)) ≡ grade t
   graded-stands t =
@@ -364,7 +388,7 @@ module _ (cap : ℕ) {G : Type 0} (grade : Transient → G) (of : Bool → Bool 
 
   -- the product of entries is worked by the complements of entries and their sum,
   pub graded-product : 2 ≤ cap → (x y : G)
-    → grade (complement (stands (grade (sum2 (stands (grade (complement (stands x)))) (stands (grade (complement (stands y)))))))) ≡ grade (product2 (stands x) (stands y))
+      → grade (complement (stands (grade (sum2 (stands (grade (complement (stands x)))) (stands (grade (complement (stands y)))))))) ≡ grade (product2 (stands x) (stands y))
   graded-product h x y =
       ap (λ (g : G). grade (complement (stands g))) (graded-operation sum2 (sum-decided cap h) (complement (stands x)) (complement (stands y)))
       ∙ graded-complement (sum2 (complement (stands x)) (complement (stands y)))
@@ -384,7 +408,7 @@ pub complement-grades : (cap : ℕ) (t : Transient) → counted cap (complement 
 complement-grades cap = graded-complement cap (counted cap) (of-changes cap) (known-grade cap) (stands-for cap) (grade-known cap)
 
 pub operation-grades : (cap : ℕ) (op : Transient → Transient → Transient) → Decided cap op
-  → (s t : Transient) → counted cap (op (stands-for cap (counted cap s)) (stands-for cap (counted cap t))) ≡ counted cap (op s t)
+    → (s t : Transient) → counted cap (op (stands-for cap (counted cap s)) (stands-for cap (counted cap t))) ≡ counted cap (op s t)
 operation-grades cap = graded-operation cap (counted cap) (of-changes cap) (known-grade cap) (stands-for cap) (grade-known cap)
 
 pub sum-grades : (cap : ℕ) → 2 ≤ cap → (s t : Transient) → counted cap (sum2 (stands-for cap (counted cap s)) (stands-for cap (counted cap t))) ≡ counted cap (sum2 s t)
@@ -402,10 +426,11 @@ read-is cap x = known-grade cap (stands-for cap x) (x .start) (x .«end») (coun
 
 -- Entries that read equal have equal starts, ends and counts.
 pub read-apart : (cap : ℕ) (x y : CountedGrade) → counted-read cap x ≡ counted-read cap y → (x .start ≡ y .start) × (x .«end» ≡ y .«end») × (count-of cap x ≡ count-of cap y)
-read-apart cap x y e =
-    (ap (λ (g : CountedGrade). g .start) e,
-    sym (stands-end cap x) ∙ ap (λ (g : CountedGrade). g .«end») e ∙ stands-end cap y,
-    sym (counts x) ∙ ap (count-of cap) e ∙ counts y)
+read-apart cap x y e = (
+  ap (λ (g : CountedGrade). g .start) e,
+  sym (stands-end cap x) ∙ ap (λ (g : CountedGrade). g .«end») e ∙ stands-end cap y,
+  sym (counts x) ∙ ap (count-of cap) e ∙ counts y,
+)
   where
     counts : (g : CountedGrade) → count-of cap (counted-read cap g) ≡ count-of cap g
     counts g = grade-count cap (stands-for cap g) ∙ stands-count cap g
@@ -435,6 +460,7 @@ sum-with-one cap h x y o = ⊎-elim first second o
   where
     first : stands-for cap x ≡ one-word → counted-sum cap x y ≡ of-changes cap true true 0
     first e = ap (λ (s : Transient). counted cap (sum2 s (stands-for cap y))) e
+
     second : stands-for cap y ≡ one-word → counted-sum cap x y ≡ of-changes cap true true 0
     second e = ap (λ (s : Transient). counted cap (sum2 (stands-for cap x) s)) e ∙ ap (counted cap) (sum-one-right (stands-for cap x))
 
@@ -446,7 +472,7 @@ sum-and-zero cap h x y e = ap (λ (s : Transient). counted cap (sum2 (stands-for
 
 -- and a sum of two that move.
 pub sum-of-moving : (cap : ℕ) → 2 ≤ cap → (x y : CountedGrade) → 1 ≤ count-of cap x → 1 ≤ count-of cap y
-  → counted-sum cap x y ≡ of-changes cap (x .start || y .start) (x .«end» || y .«end») (((count-of cap x + count-of cap y) - bit (x .start && y .start)) - bit (x .«end» && y .«end»))
+    → counted-sum cap x y ≡ of-changes cap (x .start || y .start) (x .«end» || y .«end») (((count-of cap x + count-of cap y) - bit (x .start && y .start)) - bit (x .«end» && y .«end»))
 sum-of-moving cap h x y p q =
     let n : ℕ = ((count-of cap x + count-of cap y) - bit (x .start && y .start)) - bit (x .«end» && y .«end») in
     known-grade cap (sum2 (stands-for cap x) (stands-for cap y)) (x .start || y .start) (x .«end» || y .«end») (min n cap)
@@ -501,8 +527,8 @@ byte-bit false = refl
 
 -- The sum of two entries that move, by the numbers that the code works with.
 pub sum-worked : (cap : ℕ) → 2 ≤ cap → (x y : CountedGrade) (m n a b : ℕ) → m ≡ count-of cap x → n ≡ count-of cap y
-  → a ≡ bit (x .start && y .start) → b ≡ bit (x .«end» && y .«end») → 1 ≤ m → 1 ≤ n
-  → of-changes cap (x .start || y .start) (x .«end» || y .«end») ((m + n) - (a + b)) ≡ counted-sum cap x y
+    → a ≡ bit (x .start && y .start) → b ≡ bit (x .«end» && y .«end») → 1 ≤ m → 1 ≤ n
+    → of-changes cap (x .start || y .start) (x .«end» || y .«end») ((m + n) - (a + b)) ≡ counted-sum cap x y
 sum-worked cap h x y m n a b p q r s i j =
     ap (of-changes cap (x .start || y .start) (x .«end» || y .«end»)) (numbers p q r s)
     ∙ sym (sum-of-moving cap h x y (omega arith) (omega arith))

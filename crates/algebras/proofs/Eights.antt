@@ -19,6 +19,7 @@ same-more m n e = ⊎-elim above below (cases-lt 1 m)
   where
     above : 1 < m → ltb 1 m ≡ ltb 1 n
     above l = lt-ltb 1 m l ∙ sym (lt-ltb 1 n (omega arith))
+
     below : m ≤ 1 → ltb 1 m ≡ ltb 1 n
     below l = le-ltb 1 m l ∙ sym (le-ltb 1 n (omega arith))
 
@@ -55,7 +56,7 @@ pub complement-grades : (t : Transient) → eight (complement (stands-for (eight
 complement-grades = graded-complement 2 eight of-changes known-grade stands-for grade-known
 
 pub operation-grades : (op : Transient → Transient → Transient) → Decided 2 op
-  → (s t : Transient) → eight (op (stands-for (eight s)) (stands-for (eight t))) ≡ eight (op s t)
+    → (s t : Transient) → eight (op (stands-for (eight s)) (stands-for (eight t))) ≡ eight (op s t)
 operation-grades = graded-operation 2 eight of-changes known-grade stands-for grade-known
 
 -- The product of entries, by the complements of entries and their sum.
@@ -76,8 +77,8 @@ exclusive-is x y =
 
 -- The sum of two entries that move, by the numbers that the code works with.
 pub sum-worked : (x y : EightGrade) (m n a b : ℕ) → m ≡ count-of x → n ≡ count-of y
-  → a ≡ bit (x .start && y .start) → b ≡ bit (x .«end» && y .«end») → 1 ≤ m → 1 ≤ n
-  → of-changes (x .start || y .start) (x .«end» || y .«end») ((m + n) - (a + b)) ≡ eight-sum x y
+    → a ≡ bit (x .start && y .start) → b ≡ bit (x .«end» && y .«end») → 1 ≤ m → 1 ≤ n
+    → of-changes (x .start || y .start) (x .«end» || y .«end») ((m + n) - (a + b)) ≡ eight-sum x y
 sum-worked x y m n a b p q r s i j =
     let k : ℕ = ((count-of x + count-of y) - bit (x .start && y .start)) - bit (x .«end» && y .«end») in
     of-changes-capped (x .start || y .start) (x .«end» || y .«end») ((m + n) - (a + b)) (min k 2) (numbers p q r s)

@@ -47,12 +47,13 @@ gate-within k = gate-longest k .within
 
 -- An output within the transient of what its pins had heard is within that of what they hear now, once it has answered.
 pub gate-answer-kept : (k : Kind) {hs xs : List Transient} → Prefixes hs xs → (made : ℕ) → made ≤ gate-transient k hs .changes
-  → answered (gate-function k) xs made ≤ gate-transient k xs .changes
+    → answered (gate-function k) xs made ≤ gate-transient k xs .changes
 gate-answer-kept k = answer-kept (gate-longest k)
 
 -- A gate's transient is the longest word that its output can put out.
 pub longest-word-of-a-gate : Longest-word-of-a-gate
 longest-word-of-a-gate = record {
-    follows = λ k. gate-longest k .follows;
-    bounded = λ k xs hs made lost h. heard-bounded (gate-longest k) h;
-    reached = λ k xs. all-reached (gate-longest k) xs }
+  follows = λ k. gate-longest k .follows;
+  bounded = λ k xs hs made lost h. heard-bounded (gate-longest k) h;
+  reached = λ k xs. all-reached (gate-longest k) xs;
+}

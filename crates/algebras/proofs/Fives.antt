@@ -42,7 +42,7 @@ follows op table = each (λ s. each (entry-follows op table s) all-symbols) all-
 
 -- Then it has the grade of what the operation makes of any two entries.
 pub table-rule : (op : Transient → Transient → Transient) (table : List ℕ) → follows op table ≡ true
-  → (x y : FiveGrade) (i : ℕ) → i ≡ pair-place (symbol-of x) (symbol-of y) → record { code = getD table i 0 } ≡ five (op (stands-for x) (stands-for y))
+    → (x y : FiveGrade) (i : ℕ) → i ≡ pair-place (symbol-of x) (symbol-of y) → record { code = getD table i 0 } ≡ five (op (stands-for x) (stands-for y))
 table-rule op table p x y i e =
     let row = at-each (λ s. each (entry-follows op table s) all-symbols) p (symbol-of x) in
     let here = at-each (entry-follows op table (symbol-of x)) row (symbol-of y) in
@@ -96,7 +96,6 @@ complement-symbol t = go (t .start) (t .changes)
 -- An operation that does not ask for the order, and makes one symbol of all that change twice or more, is decided by symbols.
 module _ (op : Transient → Transient → Transient) (swap : (s t : Transient) → op s t ≡ op t s)
     (many : (r s t : Transient) → 2 ≤ r .changes → 2 ≤ s .changes → symbol-for (op r t) ≡ symbol-for (op s t)) where
-
   -- In its first place,
   pub first-symbol : (s t : Transient) → symbol-for (op (symbol-word (symbol-for s)) t) ≡ symbol-for (op s t)
   first-symbol s t =
@@ -132,6 +131,7 @@ sum-many r s t h k = go (t .start) (t .changes)
         let a = sum-grows r q (omega arith) m in
         let b = sum-grows s q (omega arith) m in
         many-half (sum2 r q) (omega arith) ∙ sym (many-half (sum2 s q) (omega arith))
+
     go : (b : Bool) (n : ℕ) → symbol-for (sum2 r (record { start = b; changes = n })) ≡ symbol-for (sum2 s (record { start = b; changes = n }))
     go true zero = ap symbol-for (sum-one-right r ∙ sym (sum-one-right s))
     go false zero = ap symbol-for (sum-zero-right r) ∙ many-half r h ∙ sym (ap symbol-for (sum-zero-right s) ∙ many-half s k)
@@ -164,8 +164,8 @@ product-symbols s t =
 
 -- An operation that symbols decide is at grades the grade of its result.
 pub operation-grades : (op : Transient → Transient → Transient)
-  → ((s t : Transient) → symbol-for (op (symbol-word (symbol-for s)) (symbol-word (symbol-for t))) ≡ symbol-for (op s t))
-  → (s t : Transient) → five (op (stands-for (five s)) (stands-for (five t))) ≡ five (op s t)
+    → ((s t : Transient) → symbol-for (op (symbol-word (symbol-for s)) (symbol-word (symbol-for t))) ≡ symbol-for (op s t))
+    → (s t : Transient) → five (op (stands-for (five s)) (stands-for (five t))) ≡ five (op s t)
 operation-grades op decided s t =
     ap (λ (r : Transient). five (op r (stands-for (five t)))) (grade-word s)
     ∙ ap (λ (r : Transient). five (op (symbol-word (symbol-for s)) r)) (grade-word t)

@@ -20,10 +20,11 @@ last-first b n hs = record { pin = 0; before = record { start = b; changes = n }
 -- The last change of a later pin.
 abbrev pub last-later : (h : Transient) {hs : List Transient} → Last-change hs → Last-change (h ∷ hs)
 last-later h l = record {
-    pin = suc (l .pin);
-    before = h ∷ l .before;
-    hearing = ap (λ (ts : List Transient). h ∷ ts) (l .hearing);
-    allowed = l .allowed }
+  pin = suc (l .pin);
+  before = h ∷ l .before;
+  hearing = ap (λ (ts : List Transient). h ∷ ts) (l .hearing);
+  allowed = l .allowed;
+}
 
 -- Where changes were heard, some pin heard one.
 pub some-last : (hs : List Transient) → 1 ≤ total-changes hs → Last-change hs
@@ -47,13 +48,14 @@ last-starts l = ap starts (sym (l .hearing)) ∙ sym (prefixes-starts (hears-pre
 -- XOR: every change of a pin is a change.
 pub exclusive-longest : Longest-for xor-of exclusive
 exclusive-longest = record {
-    follows = sums-of-transients .exclusive-follows;
-    grows = λ p. prefixes-total p;
-    within = λ hs. omega arith;
-    heard-last = λ hs m.
+  follows = sums-of-transients .exclusive-follows;
+  grows = λ p. prefixes-total p;
+  within = λ hs. omega arith;
+  heard-last = λ hs m.
       let l = some-last hs m in
       let t = last-total l in
-      record { last = l; falls = omega arith } }
+      record { last = l; falls = omega arith };
+}
 
 -- The first pin's transient, or the word 0 where there is no pin.
 abbrev pub first-of : List Transient → Transient
@@ -82,6 +84,7 @@ first-follows = record { at-start = at-start; at-end = at-end }
     at-start : (xs : List Transient) → first-of xs .start ≡ getD (starts xs) 0 false
     at-start [] = refl
     at-start (x ∷ xs) = refl
+
     at-end : (xs : List Transient) → end-of (first-of xs) ≡ getD (ends xs) 0 false
     at-end [] = refl
     at-end (x ∷ xs) = refl
@@ -89,24 +92,27 @@ first-follows = record { at-start = at-start; at-end = at-end }
 -- A buffer repeats its first pin.
 pub first-longest : Longest-for (λ bs. getD bs 0 false) first-of
 first-longest = record {
-    follows = first-follows;
-    grows = λ p. first-grows p;
-    within = first-within;
-    heard-last = λ hs m.
+  follows = first-follows;
+  grows = λ p. first-grows p;
+  within = first-within;
+  heard-last = λ hs m.
       let l = some-last hs m in
-      record { last = l; falls = subst (λ ts. first-of ts .changes ≤ suc (first-of (l .before) .changes)) (l .hearing) (first-hears (l .pin) (l .before)) } }
+      record { last = l; falls = subst (λ ts. first-of ts .changes ≤ suc (first-of (l .before) .changes)) (l .hearing) (first-hears (l .pin) (l .before)) };
+}
 
 -- A gate with its output complemented.
 pub complemented-longest : {f : List Bool → Bool} {G : List Transient → Transient} → Longest-for f G → Longest-for (λ bs. not (f bs)) (λ ts. complement (G ts))
 complemented-longest {G = G} r = record {
-    follows = record {
-      at-start = λ xs. ap not (r .follows .at-start xs);
-      at-end = λ xs. complement-end (G xs) ∙ ap not (r .follows .at-end xs) };
-    grows = λ p. r .grows p;
-    within = r .within;
-    heard-last = λ hs m.
+  follows = record {
+    at-start = λ xs. ap not (r .follows .at-start xs);
+    at-end = λ xs. complement-end (G xs) ∙ ap not (r .follows .at-end xs);
+  };
+  grows = λ p. r .grows p;
+  within = r .within;
+  heard-last = λ hs m.
       let o = r .heard-last hs m in
-      record { last = o .last; falls = o .falls } }
+      record { last = o .last; falls = o .falls };
+}
 
 -- The changes before the last one, with every pin complemented.
 abbrev pub last-complement : {hs : List Transient} → Last-change (map complement hs) → Last-change hs
@@ -119,14 +125,16 @@ last-complement {hs} l =
 
 -- A gate with its pins and its output complemented.
 pub exchanged-longest : {f g : List Bool → Bool} {G : List Transient → Transient} → Longest-for f G
-  → Follows-function (λ ts. complement (G (map complement ts))) g → Longest-for g (λ ts. complement (G (map complement ts)))
+    → Follows-function (λ ts. complement (G (map complement ts))) g → Longest-for g (λ ts. complement (G (map complement ts)))
 exchanged-longest {G = G} r follows = record {
-    follows = follows;
-    grows = λ p. r .grows (prefixes-complement p);
-    within = λ hs. let w = r .within (map complement hs) in let t = total-complement hs in omega arith;
-    heard-last = λ hs m.
+  follows = follows;
+  grows = λ p. r .grows (prefixes-complement p);
+  within = λ hs. let w = r .within (map complement hs) in let t = total-complement hs in omega arith;
+  heard-last = λ hs m.
       let t = total-complement hs in
       let o = r .heard-last (map complement hs) (omega arith) in
       record {
         last = last-complement (o .last);
-        falls = subst (λ ts. G (map complement hs) .changes ≤ suc (G ts .changes)) (sym (complements-twice (o .last .before))) (o .falls) } }
+        falls = subst (λ ts. G (map complement hs) .changes ≤ suc (G ts .changes)) (sym (complements-twice (o .last .before))) (o .falls);
+      };
+}

@@ -14,7 +14,7 @@ use Rattle.algebras.specs.Hearing.{at-rest, longer, hears, changes-at}
 pub data Prefixes : List Transient → List Transient → Type 0 where
   none : Prefixes [] []
   next : {h x : Transient} {hs xs : List Transient} → h .start ≡ x .start → h .changes ≤ x .changes → Prefixes hs xs
-    → Prefixes (h ∷ hs) (x ∷ xs)
+      → Prefixes (h ∷ hs) (x ∷ xs)
 
 -- Every list is a list of prefixes of itself.
 pub prefixes-self : (hs : List Transient) → Prefixes hs hs

@@ -88,7 +88,7 @@ deducted T M K h = omega arith
 
 -- `deducted` for a list of moving words.
 pub all-deducted : (xs : List Transient) → All-move xs
-  → sum-changes xs + ones (starts xs) + ones (ends xs) ≡ total-changes xs + min 1 (ones (starts xs)) + min 1 (ones (ends xs))
+    → sum-changes xs + ones (starts xs) + ones (ends xs) ≡ total-changes xs + min 1 (ones (starts xs)) + min 1 (ones (ends xs))
 all-deducted xs h = deducted (total-changes xs) (ones (starts xs)) (ones (ends xs)) (all-counted xs h .enough)
 
 -- The changes of a sum, and the letter it ends with, in numbers.
@@ -148,7 +148,7 @@ rest-end (x ∷ xs) h =
     let p = flipped-parity (y .start) (y .changes) in
     let s = ap (λ (m : ℕ). y .changes + m) (sym (or-ones (starts r))) ∙ p .1 in
     let e = sum-parity (total-changes r) (ones (starts r)) (ones (ends r)) (y .changes) (all-counted r h) (all-deducted r h)
-              (bit (end-of y)) (p .0) (bit-small (end-of y)) s in
+    (bit (end-of y)) (p .0) (bit-small (end-of y)) s in
     same-bit (end-of y) (or-of (ends r)) (e ∙ sym (or-ones (ends r)))
 
 -- The sum of moving words moves, if there are any.
@@ -191,7 +191,7 @@ or-of-rest letter at-zero [] = refl
 or-of-rest letter at-zero (x ∷ xs) = go (is-zero x) refl (or-of-rest letter at-zero xs)
   where
     go : (z : Bool) → is-zero x ≡ z → or-of (map letter (without-zeros xs)) ≡ or-of (map letter xs)
-      → or-of (map letter (cond z (without-zeros xs) (x ∷ without-zeros xs))) ≡ letter x || or-of (map letter xs)
+        → or-of (map letter (cond z (without-zeros xs) (x ∷ without-zeros xs))) ≡ letter x || or-of (map letter xs)
     go true z r = r ∙ ap (λ (b : Bool). b || or-of (map letter xs)) (sym (ap letter (zero-is x z) ∙ at-zero))
     go false z r = ap (λ (b : Bool). letter x || b) r
 
@@ -206,8 +206,8 @@ or-of-ones letter at-one (x ∷ xs) e = go (is-one x) refl (λ r. or-of-ones let
 
 -- A sum has a letter of OR where the word 0 and the word 1 have it, and sums of moving words do.
 pub sum-letter : (letter : Transient → Bool) → letter zero-word ≡ false → letter one-word ≡ true
-  → ((xs : List Transient) → All-move xs → letter (sum-of-rest xs) ≡ or-of (map letter xs))
-  → (xs : List Transient) → letter (sum xs) ≡ or-of (map letter xs)
+    → ((xs : List Transient) → All-move xs → letter (sum-of-rest xs) ≡ or-of (map letter xs))
+    → (xs : List Transient) → letter (sum xs) ≡ or-of (map letter xs)
 sum-letter letter at-zero at-one at-rest xs = go (or-of (map is-one xs)) refl
   where
     go : (o : Bool) → or-of (map is-one xs) ≡ o → letter (cond o one-word (sum-of-rest (without-zeros xs))) ≡ or-of (map letter xs)
@@ -254,14 +254,15 @@ sum-single x = go (x .start) (x .changes)
 pub rest-swap : (x y : Transient) (zs : List Transient) → sum-of-rest (x ∷ y ∷ zs) ≡ sum-of-rest (y ∷ x ∷ zs)
 rest-swap x y zs =
     same-transient (sum-of-rest (x ∷ y ∷ zs)) (sum-of-rest (y ∷ x ∷ zs))
-        (or-swap (x .start) (y .start) (or-of (starts zs)))
-        (swapped
-            (add-swap (x .changes) (y .changes) (total-changes zs))
-            (add-swap (bit (x .start)) (bit (y .start)) (ones (starts zs)))
-            (add-swap (bit (end-of x)) (bit (end-of y)) (ones (ends zs))))
+    (or-swap (x .start) (y .start) (or-of (starts zs)))
+    (swapped
+    (add-swap (x .changes) (y .changes) (total-changes zs))
+    (add-swap (bit (x .start)) (bit (y .start)) (ones (starts zs)))
+    (add-swap (bit (end-of x)) (bit (end-of y)) (ones (ends zs))))
   where
     add-swap : (a b c : ℕ) → a + (b + c) ≡ b + (a + c)
     add-swap a b c = omega arith
+
     swapped : {T U M N K L : ℕ} → T ≡ U → M ≡ N → K ≡ L → T - deduction M - deduction K ≡ U - deduction N - deduction L
     swapped p q r = cc
 
@@ -273,7 +274,7 @@ sum-swap x y zs =
     cc
   where
     go : (a b : Bool) → sum-of-rest (cond a (cond b (without-zeros zs) (y ∷ without-zeros zs)) (x ∷ cond b (without-zeros zs) (y ∷ without-zeros zs)))
-      ≡ sum-of-rest (cond b (cond a (without-zeros zs) (x ∷ without-zeros zs)) (y ∷ cond a (without-zeros zs) (x ∷ without-zeros zs)))
+        ≡ sum-of-rest (cond b (cond a (without-zeros zs) (x ∷ without-zeros zs)) (y ∷ cond a (without-zeros zs) (x ∷ without-zeros zs)))
     go true true = refl
     go true false = refl
     go false true = refl
@@ -281,10 +282,10 @@ sum-swap x y zs =
 
 -- The changes of a sum with a sum, in numbers: A all at once, and B with the sum Y, which starts with S and ends with E.
 pub deducted-twice : (c s e T M K S E Y A B : ℕ) → S ≡ min 1 M → E ≡ min 1 K
-  → Y + M + K ≡ T + min 1 M + min 1 K
-  → A + (s + M) + (e + K) ≡ (c + T) + min 1 (s + M) + min 1 (e + K)
-  → B + (s + (S + 0)) + (e + (E + 0)) ≡ (c + (Y + 0)) + min 1 (s + (S + 0)) + min 1 (e + (E + 0))
-  → B ≡ A
+    → Y + M + K ≡ T + min 1 M + min 1 K
+    → A + (s + M) + (e + K) ≡ (c + T) + min 1 (s + M) + min 1 (e + K)
+    → B + (s + (S + 0)) + (e + (E + 0)) ≡ (c + (Y + 0)) + min 1 (s + (S + 0)) + min 1 (e + (E + 0))
+    → B ≡ A
 deducted-twice c s e T zero zero S E Y A B u v p q r = omega arith
 deducted-twice c s e T zero (suc K) S E Y A B u v p q r = omega arith
 deducted-twice c s e T (suc M) zero S E Y A B u v p q r = omega arith
@@ -299,9 +300,9 @@ rest-joins x (z ∷ zs) h k =
     let two : List Transient = x ∷ y ∷ [] in
     let m : All-move two = (h, (rest-moving z zs k, tt)) in
     let c = deducted-twice (x .changes) (bit (x .start)) (bit (end-of x)) (total-changes r) (ones (starts r)) (ones (ends r))
-              (bit (y .start)) (bit (end-of y)) (y .changes) (sum-changes (x ∷ r)) (sum-changes two)
-              (or-ones (starts r)) (ap bit (rest-end r k) ∙ or-ones (ends r))
-              (all-deducted r k) (all-deducted (x ∷ r) (h, k)) (all-deducted two m) in
+    (bit (y .start)) (bit (end-of y)) (y .changes) (sum-changes (x ∷ r)) (sum-changes two)
+    (or-ones (starts r)) (ap bit (rest-end r k) ∙ or-ones (ends r))
+    (all-deducted r k) (all-deducted (x ∷ r) (h, k)) (all-deducted two m) in
     sym (moving-sum two m ∙ same-transient (sum-of-rest two) (sum-of-rest (x ∷ r)) (ap (λ (b : Bool). x .start || b) (or-false (or-of (starts r)))) c)
 
 -- The sum of a list is that of its first and the sum of the others.
@@ -310,6 +311,7 @@ sum-joins-rest x xs = go (x .start) (x .changes)
   where
     to-second : (y : Transient) {s t : Transient} → s ≡ t → sum (y ∷ s ∷ []) ≡ sum (y ∷ t ∷ [])
     to-second y e = ap (λ t. sum (y ∷ t ∷ [])) e
+
     moving : (y : Transient) → Moves y → (o : Bool) → or-of (map is-one xs) ≡ o → sum (y ∷ xs) ≡ sum (y ∷ sum xs ∷ [])
     moving y h true o =
         sum-is-one (y ∷ xs) (or-right (is-one y) (or-of (map is-one xs)) o)
@@ -319,6 +321,7 @@ sum-joins-rest x xs = go (x .start) (x .changes)
         ∙ ap sum-of-rest (cond-false (is-zero y) (without-zeros xs) (y ∷ without-zeros xs) (moving-not-zero y h))
         ∙ rest-joins y (without-zeros xs) h (rest-moves xs o)
         ∙ sym (to-second y (sum-is-rest xs o))
+
     go : (b : Bool) (n : ℕ) → sum (record { start = b; changes = n } ∷ xs) ≡ sum (record { start = b; changes = n } ∷ sum xs ∷ [])
     go true zero = refl
     go false zero = sym (sum-single (sum xs))
@@ -329,7 +332,6 @@ module _ (all : List Transient → Transient)
     (single : (x : Transient) → all (x ∷ []) ≡ x)
     (swap : (x y : Transient) (zs : List Transient) → all (x ∷ y ∷ zs) ≡ all (y ∷ x ∷ zs))
     (joins-rest : (x : Transient) (xs : List Transient) → all (x ∷ xs) ≡ all (x ∷ all xs ∷ [])) where
-
   -- Two joined with a third are the first joined with the other two.
   pub two-associate : (x y z : Transient) → all (all (x ∷ y ∷ []) ∷ z ∷ []) ≡ all (x ∷ all (y ∷ z ∷ []) ∷ [])
   two-associate x y z =
@@ -396,11 +398,11 @@ exclusive-swap x y zs =
 pub exclusive-joins-rest : (x : Transient) (xs : List Transient) → exclusive (x ∷ xs) ≡ exclusive (x ∷ exclusive xs ∷ [])
 exclusive-joins-rest x xs =
     same-transient (exclusive (x ∷ xs)) (exclusive (x ∷ exclusive xs ∷ []))
-        (ap (differ (x .start)) (sym (differ-false (xor-of (starts xs))))) (omega arith)
+    (ap (differ (x .start)) (sym (differ-false (xor-of (starts xs))))) (omega arith)
 
 -- NOT of OR of flipped letters is AND of the letters.
 pub not-or : (letter : Transient → Bool) → ((x : Transient) → letter (complement x) ≡ not (letter x))
-  → (xs : List Transient) → not (or-of (map letter (map complement xs))) ≡ and-of (map letter xs)
+    → (xs : List Transient) → not (or-of (map letter (map complement xs))) ≡ and-of (map letter xs)
 not-or letter flips [] = refl
 not-or letter flips (x ∷ xs) =
     ap (λ b. not (b || or-of (map letter (map complement xs)))) (flips x)
@@ -455,9 +457,10 @@ exclusive-end (x ∷ xs) =
 -- Sums, products and exclusive sums are joined two by two, and follow their functions.
 pub sums-of-transients : Sums-of-transients
 sums-of-transients = record {
-    sum-joins = joins sum sum-single sum-swap sum-joins-rest;
-    product-joins = joins product product-single product-swap product-joins-rest;
-    exclusive-joins = joins exclusive exclusive-single exclusive-swap exclusive-joins-rest;
-    sum-follows = record { at-start = sum-start; at-end = sum-end };
-    product-follows = record { at-start = product-start; at-end = product-end };
-    exclusive-follows = record { at-start = λ xs. refl; at-end = exclusive-end } }
+  sum-joins = joins sum sum-single sum-swap sum-joins-rest;
+  product-joins = joins product product-single product-swap product-joins-rest;
+  exclusive-joins = joins exclusive exclusive-single exclusive-swap exclusive-joins-rest;
+  sum-follows = record { at-start = sum-start; at-end = sum-end };
+  product-follows = record { at-start = product-start; at-end = product-end };
+  exclusive-follows = record { at-start = λ xs. refl; at-end = exclusive-end };
+}

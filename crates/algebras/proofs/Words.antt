@@ -77,9 +77,10 @@ word-once s t e =
 -- Transients are the alternating lists.
 pub transients-are-words : Transients-are-words
 transients-are-words = record {
-    alternates = λ t. letters-alternate (t .start) (t .changes);
-    every = alternating-word;
-    once = word-once;
-    letters-less-one = λ t. letters-length (t .start) (t .changes);
-    first = λ t. letters-first (t .start) (t .changes);
-    last = λ t. letters-last (t .start) (t .changes) }
+  alternates = λ t. letters-alternate (t .start) (t .changes);
+  every = alternating-word;
+  once = word-once;
+  letters-less-one = λ t. letters-length (t .start) (t .changes);
+  first = λ t. letters-first (t .start) (t .changes);
+  last = λ t. letters-last (t .start) (t .changes);
+}

@@ -41,9 +41,9 @@ answered f hs made = cond (differ (f (ends hs)) (output-value f hs made)) (suc m
 pub data Heard-to (f : List Bool → Bool) (xs : List Transient) : List Transient → ℕ → ℕ → Type 0 where
   rests : Heard-to f xs (map at-rest xs) 0 0
   arrives : {hs : List Transient} {made lost : ℕ} (i : ℕ) → Heard-to f xs hs made lost → changes-at hs i < changes-at xs i
-    → Heard-to f xs (hears i hs) (answered f (hears i hs) made) lost
+      → Heard-to f xs (hears i hs) (answered f (hears i hs) made) lost
   loses : {hs : List Transient} {made lost : ℕ} (i : ℕ) → Heard-to f xs hs made lost → suc (suc (changes-at hs i)) ≤ changes-at xs i
-    → Heard-to f xs (hears i (hears i hs)) made (suc lost)
+      → Heard-to f xs (hears i (hears i hs)) made (suc lost)
 
 -- The transient of a gate is the longest word that its output can put out.
 pub record Longest-word-of-a-gate : Type 0 where
@@ -51,6 +51,6 @@ pub record Longest-word-of-a-gate : Type 0 where
   pub follows : (k : Kind) → Follows-function (gate-transient k) (gate-function k)
   -- Whatever arrives and is lost, in whatever order, the output makes no more changes.
   pub bounded : (k : Kind) (xs hs : List Transient) (made lost : ℕ) → Heard-to (gate-function k) xs hs made lost
-    → made ≤ gate-transient k xs .changes
+      → made ≤ gate-transient k xs .changes
   -- In some order that loses nothing, every pin hears everything and the output makes exactly as many.
   pub reached : (k : Kind) (xs : List Transient) → Heard-to (gate-function k) xs xs (gate-transient k xs .changes) 0

@@ -47,7 +47,8 @@ impl Kind {
     {
         match self {
             Kind::Buffer | Kind::Inverter => pins == 1,
-            Kind::And | Kind::Or | Kind::Xor | Kind::Nand | Kind::Nor | Kind::Xnor => 2 <= pins && pins <= 8,
+            Kind::And | Kind::Or | Kind::Xor | Kind::Nand | Kind::Nor | Kind::Xnor => 2 <= pins
+                && pins <= 8,
         }
     }
 }

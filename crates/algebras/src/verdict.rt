@@ -22,7 +22,11 @@ impl Verdict {
         ensures { λ r. ⌜ r ≡ verdict-by start «end» changes ⌝ }
     {
         if start == end {
-            if changes == 0 { Verdict::Steady } else { Verdict::StaticHazard }
+            if changes == 0 {
+                Verdict::Steady
+            } else {
+                Verdict::StaticHazard
+            }
         } else if changes == 1 {
             Verdict::CleanChange
         } else {

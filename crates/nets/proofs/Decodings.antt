@@ -24,8 +24,10 @@ pins-at (low ∷ high ∷ bs) (suc k) h =
   where
     even : 2 * suc k ≡ suc (suc (2 * k))
     even = omega arith
+
     odd : 2 * suc k + 1 ≡ suc (suc (2 * k + 1))
     odd = omega arith
+
     joined : getD bs (2 * k) 0 + 256 * getD bs (2 * k + 1) 0 ≡ getD (low ∷ high ∷ bs) (2 * suc k) 0 + 256 * getD (low ∷ high ∷ bs) (2 * suc k + 1) 0
     joined =
         sym (ap (λ (i : ℕ). getD (low ∷ high ∷ bs) i 0 + 256 * getD (low ∷ high ∷ bs) (2 * suc k + 1) 0) even
@@ -33,7 +35,7 @@ pins-at (low ∷ high ∷ bs) (suc k) h =
 
 -- One pin more is written.
 pub pins-more : (ws bs : List ℕ) (k v : ℕ) → k < length ws → k < length bs / 2 → v ≡ getD bs (2 * k) 0 + 256 * getD bs (2 * k + 1) 0
-  → take k ws ≡ take k (pins-in bs) → take (k + 1) (set ws k v) ≡ take (k + 1) (pins-in bs)
+    → take k ws ≡ take k (pins-in bs) → take (k + 1) (set ws k v) ≡ take (k + 1) (pins-in bs)
 pins-more ws bs k v room within read kept =
     take-more-set ws k v room
     ∙ ap (λ (x : List ℕ). x ++ v ∷ []) kept

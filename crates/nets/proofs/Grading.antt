@@ -37,15 +37,15 @@ getD-images f (x ∷ xs) (suc i) d = getD-images f xs i d
 
 -- Joining grades gives the grade of the joined transients.
 pub joined-grades : {G : Type 0} (grade : Transient → G) (op : G → G → G) (two : Transient → Transient → Transient)
-  → ((s t : Transient) → op (grade s) (grade t) ≡ grade (two s t)) → (x : Transient) (xs : List Transient) → joined op (grade x) (map grade xs) ≡ grade (joined two x xs)
+    → ((s t : Transient) → op (grade s) (grade t) ≡ grade (two s t)) → (x : Transient) (xs : List Transient) → joined op (grade x) (map grade xs) ≡ grade (joined two x xs)
 joined-grades grade op two law x [] = refl
 joined-grades grade op two law x (y ∷ ys) = ap (λ g. joined op g (map grade ys)) (law x y) ∙ joined-grades grade op two law (two x y) ys
 
 module _ {X G : Type 0} (L : Ghosts X G) (a : X) (laws : Lawful L a) where
   -- The same for an operation on lists.
   pub all-grades : (op : G → G → G) (all : List Transient → Transient) (two : Transient → Transient → Transient) → Joins all two
-    → ((s t : Transient) → op (L .grade a s) (L .grade a t) ≡ L .grade a (two s t))
-    → (x : Transient) (xs : List Transient) → joined op (L .grade a x) (map (L .grade a) xs) ≡ L .grade a (all (x ∷ xs))
+      → ((s t : Transient) → op (L .grade a s) (L .grade a t) ≡ L .grade a (two s t))
+      → (x : Transient) (xs : List Transient) → joined op (L .grade a x) (map (L .grade a) xs) ≡ L .grade a (all (x ∷ xs))
   all-grades op all two js law x xs = joined-grades (L .grade a) op two law x xs ∙ ap (L .grade a) (js .from-first x xs)
 
   -- The product, the sum and the exclusive sum of grades.
@@ -95,7 +95,7 @@ module _ {X G : Type 0} (L : Ghosts X G) (a : X) (n : ℕ) (column : List G) (ts
 
 -- Filling the next entry keeps a column.
 pub kept-push : {X G : Type 0} (L : Ghosts X G) (a : X) → Lawful L a → (ws : List Plain) (w : Plain) (column : List G)
-  → Within (length ws) w → length ws < length column → Kept L a ws column → Kept L a (ws ++ w ∷ []) (set column (length ws) (worked L a column w))
+    → Within (length ws) w → length ws < length column → Kept L a ws column → Kept L a (ws ++ w ∷ []) (set column (length ws) (worked L a column w))
 kept-push L a laws ws w column within long kept =
     ap (λ (n : ℕ). take n (set column (length ws) (worked L a column w))) (length-push ws w)
     ∙ take-more-set column (length ws) (worked L a column w) long

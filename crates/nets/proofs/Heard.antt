@@ -55,7 +55,7 @@ for-drive (gate k ps) xs = omega arith
 -- Where there are pins, an output within the transient of what they had heard is within that of what they hear now, once it
 -- has answered.
 pub for-answer : (p : Plain) → 0 < length (pins-of p) → {hs xs : List Transient} → Prefixes hs xs → (made : ℕ)
-  → made ≤ transient-for p hs .changes → answered (function-of p) xs made ≤ transient-for p xs .changes
+    → made ≤ transient-for p hs .changes → answered (function-of p) xs made ≤ transient-for p xs .changes
 for-answer (input b n) l q made m = absurd (omega arith)
 for-answer (gate k ps) l q made m = gate-answer-kept k q made m
 
@@ -65,11 +65,11 @@ map-places f ps = fill-by-all (λ i. f (getD ps i 0)) (map f ps) (length ps) (f 
 
 -- Transients at places of which each is a prefix of another's.
 pub prefixes-places : (f g : ℕ → Transient) (a n : ℕ) → ((i : ℕ) → i < a + n → f i .start ≡ g i .start)
-  → ((i : ℕ) → i < a + n → f i .changes ≤ g i .changes) → Prefixes (map f (counting a n)) (map g (counting a n))
+    → ((i : ℕ) → i < a + n → f i .changes ≤ g i .changes) → Prefixes (map f (counting a n)) (map g (counting a n))
 prefixes-places f g a zero s l = none
 prefixes-places f g a (suc n) s l =
     next (s a (omega arith)) (l a (omega arith))
-      (prefixes-places f g (a + 1) n (λ i m. s i (omega arith)) (λ i m. l i (omega arith)))
+    (prefixes-places f g (a + 1) n (λ i m. s i (omega arith)) (λ i m. l i (omega arith)))
 
 -- The transient of a wire that is worked from a net's transients.
 pub after-for : (ts : List Transient) (p : Plain) → transient-after ts p ≡ transient-for p (map (λ q. getD ts q zero-word) (pins-of p))
@@ -80,7 +80,7 @@ after-for ts (gate k ps) = refl
 pub transient-pins : (net : List Plain) → Lower net → (w : ℕ) → transient net w ≡ transient-for (wire-at net w) (pin-transients net w)
 transient-pins net lower w =
     transient-lower net lower w ∙ after-for (transients net) (wire-at net w)
-      ∙ ap (transient-for (wire-at net w)) (map-places (transient net) (pins-of (wire-at net w)))
+    ∙ ap (transient-for (wire-at net w)) (map-places (transient net) (pins-of (wire-at net w)))
 
 -- The values of the pins are the ends of what they have heard.
 pub ends-heard : (net : List Plain) (s : State) (w : ℕ) → ends (heard-of net s w) ≡ map (pin-value net s w) (counting 0 (pin-count net w))
@@ -90,19 +90,19 @@ ends-heard net s w = map-map end-of (heard-at net s w) (counting 0 (pin-count ne
 pub starts-heard : (net : List Plain) (s : State) (w : ℕ) → starts (heard-of net s w) ≡ starts (heard-of net rest w)
 starts-heard net s w =
     map-map (λ (x : Transient). x .start) (heard-at net s w) (counting 0 (pin-count net w))
-      ∙ sym (map-map (λ (x : Transient). x .start) (heard-at net rest w) (counting 0 (pin-count net w)))
+    ∙ sym (map-map (λ (x : Transient). x .start) (heard-at net rest w) (counting 0 (pin-count net w)))
 
 -- At rest every pin has heard a prefix of its wire's transient.
 pub rest-heard : (net : List Plain) (w : ℕ) → Prefixes (heard-of net rest w) (pin-transients net w)
 rest-heard net w =
     prefixes-places (heard-at net rest w) (λ i. transient net (pin-wire net w i)) 0 (pin-count net w)
-      (λ i l. start-of-transient net (pin-wire net w i)) (λ i l. omega arith)
+    (λ i l. start-of-transient net (pin-wire net w i)) (λ i l. omega arith)
 
 -- The start of a wire belongs to the starts of what its pins have heard.
 pub start-heard : (net : List Plain) → Lower net → (s : State) (w : ℕ) → start-of net w ≡ function-of (wire-at net w) (starts (heard-of net s w))
 start-heard net lower s w =
     start-of-transient net w ∙ ap (λ (t : Transient). t .start) (transient-pins net lower w) ∙ for-start (wire-at net w) (pin-transients net w)
-      ∙ ap (function-of (wire-at net w)) (sym (starts-heard net s w ∙ prefixes-starts (rest-heard net w)))
+    ∙ ap (function-of (wire-at net w)) (sym (starts-heard net s w ∙ prefixes-starts (rest-heard net w)))
 
 -- A wire that makes a change has made one more.
 pub makes-same : (w : ℕ) (s : State) → makes w s .made w ≡ suc (s .made w)
@@ -174,16 +174,18 @@ answers-grows net w s v = grown (differ (function-of (wire-at net w) (pin-values
 
 -- What a gate's wire has made once it has answered what its pins have heard.
 pub answers-same : (net : List Plain) → Lower net → (w : ℕ) (s : State)
-  → answers net w s .made w ≡ answered (function-of (wire-at net w)) (heard-of net s w) (s .made w)
+    → answers net w s .made w ≡ answered (function-of (wire-at net w)) (heard-of net s w) (s .made w)
 answers-same net lower w s =
     made-by (differ (function-of (wire-at net w) (pin-values net s w)) (wire-value net s w))
-      ∙ ap (λ (b : Bool). cond b (suc (s .made w)) (s .made w)) (v ∙ o)
+    ∙ ap (λ (b : Bool). cond b (suc (s .made w)) (s .made w)) (v ∙ o)
   where
     made-by : (b : Bool) → (cond b (makes w s) s) .made w ≡ cond b (suc (s .made w)) (s .made w)
     made-by true = makes-same w s
     made-by false = refl
+
     v : differ (function-of (wire-at net w) (pin-values net s w)) (wire-value net s w) ≡ differ (function-of (wire-at net w) (ends (heard-of net s w))) (wire-value net s w)
     v = ap (λ (bs : List Bool). differ (function-of (wire-at net w) bs) (wire-value net s w)) (sym (ends-heard net s w))
+
     o : differ (function-of (wire-at net w) (ends (heard-of net s w))) (wire-value net s w)
-      ≡ differ (function-of (wire-at net w) (ends (heard-of net s w))) (flipped (function-of (wire-at net w) (starts (heard-of net s w))) (s .made w))
+        ≡ differ (function-of (wire-at net w) (ends (heard-of net s w))) (flipped (function-of (wire-at net w) (starts (heard-of net s w))) (s .made w))
     o = ap (λ (b : Bool). differ (function-of (wire-at net w) (ends (heard-of net s w))) (flipped b (s .made w))) (start-heard net lower s w)

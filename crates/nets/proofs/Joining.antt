@@ -34,6 +34,6 @@ others-below n ps below =
 module _ {X G : Type 0} (L : Ghosts X G) (a : X) (column : List G) (k : Kind) where
   -- A gate's grade, by its first pin and the others.
   pub gate-grade-parts : (ps : List ℕ) → 0 < length ps
-    → gives L a k (joined (joins L a k) (entry L a column (getD ps 0 0)) (entries L a column (take (length ps - 1) (drop 1 ps)))) ≡ gate-grade L a k (entries L a column ps)
+      → gives L a k (joined (joins L a k) (entry L a column (getD ps 0 0)) (entries L a column (take (length ps - 1) (drop 1 ps)))) ≡ gate-grade L a k (entries L a column ps)
   gate-grade-parts [] some = absurd (omega arith)
   gate-grade-parts (p ∷ ps) some = ap (λ (qs : List ℕ). gives L a k (joined (joins L a k) (entry L a column p) (entries L a column qs))) (take-rest (p ∷ ps) 1)

@@ -26,50 +26,55 @@ wire-past net w l = getD-past net w (input false 0) l
 pub turns-made : (net : List Plain) → Lower net → (s : State) → Turn-of net (length net) s → (w : ℕ) → s .made w ≡ transient net w .changes
 turns-made net lower s t w =
     elim (cases-lt w (length net)) [
-      inl l ↦ t .around .below w l
-    | inr l ↦
-        let e = wire-past net w l in
-        let c : transient net w .changes ≡ 0 =
-            ap (λ (x : Transient). x .changes) (transient-pins net lower w) ∙ ap (λ (p : Plain). transient-for p (pin-transients net w) .changes) e in
-        let d : drive-of (wire-at net w) ≡ 0 = ap drive-of e in
-        let m : s .made w ≡ drive-of (wire-at net w) = made-past l in
-        omega arith ]
+      | inl l ↦ t .around .below w l
+      | inr l ↦
+          let e = wire-past net w l in
+          let c : transient net w .changes ≡ 0 =
+          ap (λ (x : Transient). x .changes) (transient-pins net lower w) ∙ ap (λ (p : Plain). transient-for p (pin-transients net w) .changes) e in
+          let d : drive-of (wire-at net w) ≡ 0 = ap drive-of e in
+          let m : s .made w ≡ drive-of (wire-at net w) = made-past l in
+          omega arith
+    ]
   where
     made-past : length net ≤ w → s .made w ≡ drive-of (wire-at net w)
     made-past l =
         elim (cases-lt (length net) w) [
-          inl k ↦ t .around .above w k
-        | inr k ↦
-            let e : length net ≡ w = omega arith in
-            rw (← e) (t .here) ]
+          | inl k ↦ t .around .above w k
+          | inr k ↦
+              let e : length net ≡ w = omega arith in
+              rw (← e) (t .here)
+        ]
 
 -- Every pin has then heard all changes of its wire's transient.
 pub turns-heard : (net : List Plain) (s : State) → Turn-of net (length net) s → (w i : ℕ) → i < pin-count net w
-  → s .heard w i ≡ transient net (pin-wire net w i) .changes
+    → s .heard w i ≡ transient net (pin-wire net w i) .changes
 turns-heard net s t w i k =
     elim (cases-lt w (length net)) [
-      inl l ↦ t .around .heard w i l k
-    | inr l ↦ let e = ap (λ (p : Plain). length (pins-of p)) (wire-past net w l) in absurd (omega arith) ]
+      | inl l ↦ t .around .heard w i l k
+      | inr l ↦ let e = ap (λ (p : Plain). length (pins-of p)) (wire-past net w l) in absurd (omega arith)
+    ]
 
 -- Some order serves the gates one after another, and each wire makes all changes of its transient.
 pub served : (net : List Plain) → Lower net
-  → (order : List Step) × Serves-in-turn net order × ((w : ℕ) → ending net order .made w ≡ transient net w .changes)
+    → (order : List Step) × Serves-in-turn net order × ((w : ℕ) → ending net order .made w ≡ transient net w .changes)
 served net lower =
     let r = turns net lower (length net) in
     let o = r .order in
-    let made = turns-made net lower (ending net o) (r .comes) in
-    (o,
-     record {
-       allowed = r .allowed;
-       loses-none = r .loses-none;
-       in-turn = r .in-turn;
-       all-made = λ w.
-         (let m = made w in
-          let e = ap (λ (x : Transient). x .changes) (transient-pins net lower w) in
-          let d = for-drive (wire-at net w) (pin-transients net w) in
-          omega arith);
-       all-heard = λ w i k. turns-heard net (ending net o) (r .comes) w i k ∙ sym (made (pin-wire net w i)) },
-     made)
+    let made = turns-made net lower (ending net o) (r .comes) in (
+      o,
+      record {
+        allowed = r .allowed;
+        loses-none = r .loses-none;
+        in-turn = r .in-turn;
+        all-made = λ w.
+            (let m = made w in
+            let e = ap (λ (x : Transient). x .changes) (transient-pins net lower w) in
+            let d = for-drive (wire-at net w) (pin-transients net w) in
+            omega arith);
+        all-heard = λ w i k. turns-heard net (ending net o) (r .comes) w i k ∙ sym (made (pin-wire net w i));
+      },
+      made,
+    )
 
 -- A word with fewer changes is a beginning.
 pub letters-begin : (b : Bool) (m n : ℕ) → m ≤ n → Begins (letters b m) (letters b n)
@@ -88,13 +93,14 @@ longest-in-turn net lower =
       order = o;
       serves = serves;
       begins = λ other a w.
-        (let m = made w in
-         let l = order-within net lower other a w in
-         letters-begin (start-of net w) (ending net other .made w) (ending net o .made w) (omega arith)) }
+          (let m = made w in
+          let l = order-within net lower other a w in
+          letters-begin (start-of net w) (ending net other .made w) (ending net o .made w) (omega arith));
+    }
 
 -- A history with all changes of the transient is its word.
 pub history-whole : (net : List Plain) (order : List Step) (w : ℕ) → ending net order .made w ≡ transient net w .changes
-  → history net order w ≡ word (transient net w)
+    → history net order w ≡ word (transient net w)
 history-whole net order w e =
     ap word (same-transient (record { start = start-of net w; changes = ending net order .made w }) (transient net w) (start-of-transient net w) e)
 
@@ -115,10 +121,12 @@ transient-longest net lower w h e =
       order = o;
       allowed = serves .allowed;
       gives = history-whole net o w (made w) ∙ sym e;
-      longest = λ other a. (let m = made w in let l = order-within net lower other a w in omega arith) }
+      longest = λ other a. (let m = made w in let l = order-within net lower other a w in omega arith);
+    }
 
 -- Both for every net whose pins name lower wires.
 pub longest-histories : Longest-histories
 longest-histories = record {
-    in-turn = longest-in-turn;
-    by-transients = λ net lower w l h. (longest-transient net lower w h, transient-longest net lower w h) }
+  in-turn = longest-in-turn;
+  by-transients = λ net lower w l h. (longest-transient net lower w h, transient-longest net lower w h);
+}

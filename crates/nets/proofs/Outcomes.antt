@@ -76,7 +76,7 @@ high-refusal n long (ask-input start changes) e = go (leb 512 n) (leb long n) (l
 high-refusal n long (ask-gate kind pins) e = go (leb 512 n) (leb long n) (isSome (kind-of kind)) (count-allowed (kind-of kind) (length pins)) (or-of (map (leb n) pins)) refl e
   where
     go : (a b k c h : Bool) → leb 512 n ≡ a → number-or-none (cond a (Some Full) (cond b (Some ShortColumn) (cond (not k) (Some BadKind) (cond (not c) (Some BadPinCount) (cond h (Some HighPin) None))))) ≡ 9
-      → (n < 512) × (h ≡ true)
+        → (n < 512) × (h ≡ true)
     go true b k c h p e = absurd (omega arith)
     go false true k c h p e = absurd (omega arith)
     go false false false c h p e = absurd (omega arith)
@@ -93,7 +93,7 @@ low-admitted n long (ask-input start changes) e = go (leb 512 n) refl (ap number
 low-admitted n long (ask-gate kind pins) e = go (leb 512 n) (leb long n) (isSome (kind-of kind)) (count-allowed (kind-of kind) (length pins)) (or-of (map (leb n) pins)) refl (ap number-or-none e)
   where
     go : (a b k c h : Bool) → leb 512 n ≡ a → number-or-none (cond a (Some Full) (cond b (Some ShortColumn) (cond (not k) (Some BadKind) (cond (not c) (Some BadPinCount) (cond h (Some HighPin) None))))) ≡ 0
-      → (n < 512) × (h ≡ false)
+        → (n < 512) × (h ≡ false)
     go true b k c h p e = absurd (omega arith)
     go false true k c h p e = absurd (omega arith)
     go false false false c h p e = absurd (omega arith)
@@ -103,24 +103,25 @@ low-admitted n long (ask-gate kind pins) e = go (leb 512 n) (leb long n) (isSome
 
 -- Where a record is refused for a pin too high, the search finds that pin; else the pin is 0.
 pub pin-found : (ws : List Plain) (long : ℕ) (bytes : List ℕ) (r : Reason) (s : Option ℕ) → 0 < length bytes → reason-of ws long bytes ≡ Some r
-  → s ≡ search-high 0 (length ws) bytes → cond (eqb (reason-number r) 9) (valueOr s 0) 0 ≡ pin-of r (length ws) (request-of bytes)
+    → s ≡ search-high 0 (length ws) bytes → cond (eqb (reason-number r) 9) (valueOr s 0) 0 ≡ pin-of r (length ws) (request-of bytes)
 pin-found ws long bytes r s some refused search = ⊎-elim nine other (cases-bool (eqb (reason-number r) 9))
   where
     other : eqb (reason-number r) 9 ≡ false → cond (eqb (reason-number r) 9) (valueOr s 0) 0 ≡ pin-of r (length ws) (request-of bytes)
     other e = ap (λ (b : Bool). cond b (valueOr s 0) 0) e ∙ sym (ap (λ (b : Bool). cond b (first-high (length ws) (pins-asked (request-of bytes))) 0) e)
+
     nine : eqb (reason-number r) 9 ≡ true → cond (eqb (reason-number r) 9) (valueOr s 0) 0 ≡ pin-of r (length ws) (request-of bytes)
     nine e =
         let number = eqb-true (reason-number r) 9 e in
         ⊎-elim
         (λ bad. absurd (misread-number (getD bytes 0 0) (drop 1 bytes) r bad number))
         (λ net.
-            let high = high-refusal (length ws) long (request-of bytes) (carried-number (refusal (length ws) long (request-of bytes)) r (net .1) ∙ number) in
-            ap (λ (o : Option ℕ). cond (eqb (reason-number r) 9) (valueOr o 0) 0) (search ∙ search-finds (length ws) bytes some (net .0) (high .0) (high .1)))
+        let high = high-refusal (length ws) long (request-of bytes) (carried-number (refusal (length ws) long (request-of bytes)) r (net .1) ∙ number) in
+        ap (λ (o : Option ℕ). cond (eqb (reason-number r) 9) (valueOr o 0) 0) (search ∙ search-finds (length ws) bytes some (net .0) (high .0) (high .1)))
         (or-else-some (misread (getD bytes 0 0) (drop 1 bytes)) (carried (refusal (length ws) long (request-of bytes))) r refused)
 
 -- Where a record is placed, the search goes on after it.
 pub search-past : (ws : List Plain) (long : ℕ) (bytes : List ℕ) → 0 < length bytes → reason-of ws long bytes ≡ None
-  → search-high 0 (length ws) bytes ≡ search-high 0 (length ws + 1) (drop (record-length bytes) bytes)
+    → search-high 0 (length ws) bytes ≡ search-high 0 (length ws + 1) (drop (record-length bytes) bytes)
 search-past ws long bytes some admitted =
     let parts = or-else-none (misread (getD bytes 0 0) (drop 1 bytes)) (carried (refusal (length ws) long (request-of bytes))) admitted in
     let low = low-admitted (length ws) long (request-of bytes) (carried-none (refusal (length ws) long (request-of bytes)) (parts .1)) in
@@ -160,17 +161,17 @@ module _ {X G : Type 0} (L : Ghosts X G) (a : X) where
 
   -- A record that is refused ends the reading.
   pub reading-ends : (at count : ℕ) (ws : List Plain) (column : List G) (bytes : List ℕ) (r : Reason) → 0 < length bytes → reason-of ws (length column) bytes ≡ Some r
-    → reading L a at 0 count ws column bytes ≡ record { wires = ws; column = column; answer = Err (at-place r at (length ws) (pin-of r (length ws) (request-of bytes))) }
+      → reading L a at 0 count ws column bytes ≡ record { wires = ws; column = column; answer = Err (at-place r at (length ws) (pin-of r (length ws) (request-of bytes))) }
   reading-ends at count ws column [] r some refused = absurd (omega arith)
   reading-ends at count ws column (b ∷ bs) r some refused =
       ap (λ (o : Option Reason). stopped o
-          (λ r. record { wires = ws; column = column; answer = Err (at-place r at (length ws) (pin-of r (length ws) (request-at b bs))) })
-          (reading L a (suc at) (body-size b) (suc count) (ws ++ asked (request-at b bs) ∷ []) (set column (length ws) (worked L a column (asked (request-at b bs)))) bs))
+      (λ r. record { wires = ws; column = column; answer = Err (at-place r at (length ws) (pin-of r (length ws) (request-at b bs))) })
+      (reading L a (suc at) (body-size b) (suc count) (ws ++ asked (request-at b bs) ∷ []) (set column (length ws) (worked L a column (asked (request-at b bs)))) bs))
       refused
 
   -- After a record that is placed, what is left is read.
   pub reading-goes-on : (at count : ℕ) (ws : List Plain) (column : List G) (bytes : List ℕ) → 0 < length bytes → reason-of ws (length column) bytes ≡ None
-    → reading L a at 0 count ws column bytes
+      → reading L a at 0 count ws column bytes
       ≡ reading L a (at + record-length bytes) 0 (count + 1) (ws ++ asked (request-of bytes) ∷ []) (set column (length ws) (worked L a column (asked (request-of bytes)))) (drop (record-length bytes) bytes)
   reading-goes-on at count ws column [] some admitted = absurd (omega arith)
   reading-goes-on at count ws column (b ∷ bs) some admitted =
@@ -178,8 +179,8 @@ module _ {X G : Type 0} (L : Ghosts X G) (a : X) where
       let column′ = set column (length ws) (worked L a column (asked (request-at b bs))) in
       let e : suc at + body-size b ≡ at + suc (body-size b) = omega arith in
       ap (λ (o : Option Reason). stopped o
-          (λ r. record { wires = ws; column = column; answer = Err (at-place r at (length ws) (pin-of r (length ws) (request-at b bs))) })
-          (reading L a (suc at) (body-size b) (suc count) ws′ column′ bs))
+      (λ r. record { wires = ws; column = column; answer = Err (at-place r at (length ws) (pin-of r (length ws) (request-at b bs))) })
+      (reading L a (suc at) (body-size b) (suc count) ws′ column′ bs))
       admitted
       ∙ reading-skips (body-size b) (suc at) (suc count) ws′ column′ bs
       ∙ ap (λ (n : ℕ). reading L a n 0 (suc count) ws′ column′ (drop (body-size b) bs)) e
@@ -196,11 +197,11 @@ module _ {X G : Type 0} (L : Ghosts X G) (a : X) (bytes : List ℕ) (at count : 
 
   -- A record is placed, and the reading goes on after it.
   pub turn-placed : (size : ℕ) (ws′ : List Plain) (column′ : List G) → reason-of ws (length column) rest ≡ None → record-length rest ≡ size
-    → ws′ ≡ settled (reason-of ws (length column) rest) (ws ++ asked (request-of rest) ∷ []) ws
-    → column′ ≡ settled (reason-of ws (length column) rest) (set column (length ws) (worked L a column (asked (request-of rest)))) column
-    → (at + size ≤ length bytes) × (1 ≤ size)
-    × (reading L a (at + size) 0 (count + 1) ws′ column′ (drop (at + size) bytes) ≡ result)
-    × (search-high 0 (length ws′) (drop (at + size) bytes) ≡ high)
+      → ws′ ≡ settled (reason-of ws (length column) rest) (ws ++ asked (request-of rest) ∷ []) ws
+      → column′ ≡ settled (reason-of ws (length column) rest) (set column (length ws) (worked L a column (asked (request-of rest)))) column
+      → (at + size ≤ length bytes) × (1 ≤ size)
+      × (reading L a (at + size) 0 (count + 1) ws′ column′ (drop (at + size) bytes) ≡ result)
+      × (search-high 0 (length ws′) (drop (at + size) bytes) ≡ high)
   turn-placed size ws′ column′ placed long wires entries =
       let h = rest-length bytes at in
       let whole = placed-whole ws (length column) rest some-rest placed in
@@ -208,35 +209,38 @@ module _ {X G : Type 0} (L : Ghosts X G) (a : X) (bytes : List ℕ) (at count : 
       let column-is = entries ∙ sym (settled-passed (reason-of ws (length column) rest) (set column (length ws) (worked L a column (asked (request-of rest)))) column placed) in
       let bytes-are = sym (rest-drop bytes at size) ∙ ap (λ (n : ℕ). drop n rest) (sym long) in
       let on = reading-goes-on L a at count ws column rest some-rest placed in
-      let past = search-past ws (length column) rest some-rest placed in
-      (omega arith, omega arith,
-      ap (λ (n : ℕ). reading L a n 0 (count + 1) ws′ column′ (drop (at + size) bytes)) (ap (λ (n : ℕ). at + n) (sym long))
-      ∙ ap (λ v. reading L a (at + record-length rest) 0 (count + 1) v column′ (drop (at + size) bytes)) ws-is
-      ∙ ap (λ v. reading L a (at + record-length rest) 0 (count + 1) (ws ++ asked (request-of rest) ∷ []) v (drop (at + size) bytes)) column-is
-      ∙ ap (reading L a (at + record-length rest) 0 (count + 1) (ws ++ asked (request-of rest) ∷ []) (set column (length ws) (worked L a column (asked (request-of rest))))) bytes-are
-      ∙ sym on ∙ ap (reading L a at 0 count ws column) (take-rest bytes at) ∙ left,
-      ap (λ (n : ℕ). search-high 0 n (drop (at + size) bytes)) (ap length ws-is ∙ length-push ws (asked (request-of rest)))
-      ∙ ap (search-high 0 (length ws + 1)) bytes-are
-      ∙ sym past ∙ ap (search-high 0 (length ws)) (take-rest bytes at) ∙ search)
+      let past = search-past ws (length column) rest some-rest placed in (
+        omega arith,
+        omega arith,
+        ap (λ (n : ℕ). reading L a n 0 (count + 1) ws′ column′ (drop (at + size) bytes)) (ap (λ (n : ℕ). at + n) (sym long))
+            ∙ ap (λ v. reading L a (at + record-length rest) 0 (count + 1) v column′ (drop (at + size) bytes)) ws-is
+            ∙ ap (λ v. reading L a (at + record-length rest) 0 (count + 1) (ws ++ asked (request-of rest) ∷ []) v (drop (at + size) bytes)) column-is
+            ∙ ap (reading L a (at + record-length rest) 0 (count + 1) (ws ++ asked (request-of rest) ∷ []) (set column (length ws) (worked L a column (asked (request-of rest))))) bytes-are
+            ∙ sym on ∙ ap (reading L a at 0 count ws column) (take-rest bytes at) ∙ left,
+        ap (λ (n : ℕ). search-high 0 n (drop (at + size) bytes)) (ap length ws-is ∙ length-push ws (asked (request-of rest)))
+            ∙ ap (search-high 0 (length ws + 1)) bytes-are
+            ∙ sym past ∙ ap (search-high 0 (length ws)) (take-rest bytes at) ∙ search,
+      )
 
   -- A record is refused, and the reading ends.
   pub turn-refused : (r : Reason) (ws′ : List Plain) (column′ : List G) (pin : ℕ) → reason-of ws (length column) rest ≡ Some r
-    → ws′ ≡ settled (reason-of ws (length column) rest) (ws ++ asked (request-of rest) ∷ []) ws
-    → column′ ≡ settled (reason-of ws (length column) rest) (set column (length ws) (worked L a column (asked (request-of rest)))) column
-    → pin ≡ cond (eqb (reason-number r) 9) (valueOr high 0) 0
-    → (Err (at-place r at (length ws′) pin) ≡ result .answer) × (ws′ ≡ result .wires) × (column′ ≡ result .column)
+      → ws′ ≡ settled (reason-of ws (length column) rest) (ws ++ asked (request-of rest) ∷ []) ws
+      → column′ ≡ settled (reason-of ws (length column) rest) (set column (length ws) (worked L a column (asked (request-of rest)))) column
+      → pin ≡ cond (eqb (reason-number r) 9) (valueOr high 0) 0
+      → (Err (at-place r at (length ws′) pin) ≡ result .answer) × (ws′ ≡ result .wires) × (column′ ≡ result .column)
   turn-refused r ws′ column′ pin refused wires entries pin-is =
       let ws-is = wires ∙ sym (settled-refused (reason-of ws (length column) rest) (ws ++ asked (request-of rest) ∷ []) ws r refused) in
       let column-is = entries ∙ sym (settled-refused (reason-of ws (length column) rest) (set column (length ws) (worked L a column (asked (request-of rest)))) column r refused) in
       let ends = sym (reading-ends L a at count ws column rest r some-rest refused) ∙ ap (reading L a at 0 count ws column) (take-rest bytes at) ∙ left in
-      let found = pin-is ∙ pin-found ws (length column) rest r high some-rest refused (sym search ∙ ap (search-high 0 (length ws)) (sym (take-rest bytes at))) in
-      (ap (λ (n : ℕ). Err (at-place r at (length ws′) n)) found
-      ∙ ap (λ v. Err (at-place r at (length v) (pin-of r (length ws) (request-of rest)))) ws-is
-      ∙ ap (λ (o : Outcome G). o .answer) ends,
-      ws-is ∙ ap (λ (o : Outcome G). o .wires) ends,
-      column-is ∙ ap (λ (o : Outcome G). o .column) ends)
+      let found = pin-is ∙ pin-found ws (length column) rest r high some-rest refused (sym search ∙ ap (search-high 0 (length ws)) (sym (take-rest bytes at))) in (
+        ap (λ (n : ℕ). Err (at-place r at (length ws′) n)) found
+            ∙ ap (λ v. Err (at-place r at (length v) (pin-of r (length ws) (request-of rest)))) ws-is
+            ∙ ap (λ (o : Outcome G). o .answer) ends,
+        ws-is ∙ ap (λ (o : Outcome G). o .wires) ends,
+        column-is ∙ ap (λ (o : Outcome G). o .column) ends,
+      )
 
 -- Nothing is left.
 pub turn-none : {X G : Type 0} (L : Ghosts X G) (a : X) (bytes : List ℕ) (at count : ℕ) (ws : List Plain) (column : List G) (result : Outcome G)
-  → reading L a at 0 count ws column (drop at bytes) ≡ result → length bytes ≤ at → record { wires = ws; column = column; answer = Ok count } ≡ result
+    → reading L a at 0 count ws column (drop at bytes) ≡ result → length bytes ≤ at → record { wires = ws; column = column; answer = Ok count } ≡ result
 turn-none L a bytes at count ws column result left past = sym (ap (reading L a at 0 count ws column) (drop-all at bytes past)) ∙ left

@@ -69,8 +69,8 @@ allowed Xnor n e = several-allowed n e
 
 -- The checks of a gate, for the kind that its number gives.
 pub gate-passes : (o : Option Kind) (k : Kind) (w : ℕ) (ps qs : List ℕ) → o ≡ Some k → pins-allowed k (length ps) ≡ true → or-of (map (leb w) ps) ≡ false → qs ≡ ps
-  → (cond (not (isSome o)) (Some BadKind) (cond (not (count-allowed o (length ps))) (Some BadPinCount) (cond (or-of (map (leb w) ps)) (Some HighPin) None)) ≡ None)
-  × (gate k qs ≡ gate (valueOr o Buffer) ps) × Within w (gate k qs)
+    → (cond (not (isSome o)) (Some BadKind) (cond (not (count-allowed o (length ps))) (Some BadPinCount) (cond (or-of (map (leb w) ps)) (Some HighPin) None)) ≡ None)
+    × (gate k qs ≡ gate (valueOr o Buffer) ps) × Within w (gate k qs)
 gate-passes o k w ps qs kind-is few low pins-are =
     let a = ap isSome kind-is in
     let b = ap (λ p. count-allowed p (length ps)) kind-is ∙ few in

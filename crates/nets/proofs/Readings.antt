@@ -35,6 +35,7 @@ readable bytes size kind long whole =
   where
     fits : (m n : ℕ) → suc m ≡ size → size ≤ n → m ≤ n - 1
     fits m n p q = omega arith
+
     passes : {x y : Bool} → x ≡ true → y ≡ false → cond (not x) (Some UnknownKind) (cond y (Some CutShort) None) ≡ None
     passes {x} {y} p q = rw (p, q)
 
@@ -47,11 +48,12 @@ input-request bytes kind =
 
 -- What the record of a gate asks for.
 pub gate-request : (bytes : List ℕ) (size : ℕ) → (getD bytes 0 0 ≡ 1 → ⊥) → record-length bytes ≡ size
-  → request-of bytes ≡ ask-gate (getD bytes 0 0 / 16) (pins-in (take (size - 1) (drop 1 bytes)))
+    → request-of bytes ≡ ask-gate (getD bytes 0 0 / 16) (pins-in (take (size - 1) (drop 1 bytes)))
 gate-request bytes size kind long = go (getD bytes 0 0) kind long
   where
     less : (m : ℕ) → suc m ≡ size → m ≡ size - 1
     less m p = omega arith
+
     go : (b : ℕ) → (b ≡ 1 → ⊥) → suc (body-size b) ≡ size → request-at b (drop 1 bytes) ≡ ask-gate (b / 16) (pins-in (take (size - 1) (drop 1 bytes)))
     go b kind long =
         ap (λ (i : Bool). cond i (ask-input (getD (take (body-size b) (drop 1 bytes)) 0 0) (getD (take (body-size b) (drop 1 bytes)) 1 0)) (ask-gate (b / 16) (pins-in (take (body-size b) (drop 1 bytes))))) (ne-eqb b 1 kind)
@@ -59,14 +61,14 @@ gate-request bytes size kind long = go (getD bytes 0 0) kind long
 
 -- Why a record that can be read is refused, and that it is not.
 pub record-refused : (ws : List Plain) (long : ℕ) (bytes : List ℕ) (q : Request) (f : NetFault) → misread (getD bytes 0 0) (drop 1 bytes) ≡ None → request-of bytes ≡ q
-  → refusal (length ws) long q ≡ Some f → reason-of ws long bytes ≡ Some (Refused f)
+    → refusal (length ws) long q ≡ Some f → reason-of ws long bytes ≡ Some (Refused f)
 record-refused ws long bytes q f read asks refused =
     ap (λ o. or-else o (carried (refusal (length ws) long (request-of bytes)))) read
     ∙ ap (λ r. carried (refusal (length ws) long r)) asks
     ∙ ap carried refused
 
 pub record-admitted : (ws : List Plain) (long : ℕ) (bytes : List ℕ) (q : Request) → misread (getD bytes 0 0) (drop 1 bytes) ≡ None → request-of bytes ≡ q
-  → refusal (length ws) long q ≡ None → reason-of ws long bytes ≡ None
+    → refusal (length ws) long q ≡ None → reason-of ws long bytes ≡ None
 record-admitted ws long bytes q read asks admitted =
     ap (λ o. or-else o (carried (refusal (length ws) long (request-of bytes)))) read
     ∙ ap (λ r. carried (refusal (length ws) long r)) asks
@@ -100,7 +102,7 @@ search-stops n (b ∷ bs) e = ap (λ (t : Bool). cond t None (cond (or-of (map (
 
 -- else the first pin too high, if it has one,
 pub search-finds : (n : ℕ) (bytes : List ℕ) → 0 < length bytes → misread (getD bytes 0 0) (drop 1 bytes) ≡ None → n < 512
-  → or-of (map (leb n) (pins-asked (request-of bytes))) ≡ true → search-high 0 n bytes ≡ Some (first-high n (pins-asked (request-of bytes)))
+    → or-of (map (leb n) (pins-asked (request-of bytes))) ≡ true → search-high 0 n bytes ≡ Some (first-high n (pins-asked (request-of bytes)))
 search-finds n [] some read few high = absurd (omega arith)
 search-finds n (b ∷ bs) some read few high =
     let x = ap isSome read in
@@ -108,12 +110,12 @@ search-finds n (b ∷ bs) some read few high =
     found x y high
   where
     found : {x y z : Bool} → x ≡ false → y ≡ false → z ≡ true
-      → cond (x || y) None (cond z (Some (first-high n (pins-asked (request-at b bs)))) (search-high (body-size b) (suc n) bs)) ≡ Some (first-high n (pins-asked (request-at b bs)))
+        → cond (x || y) None (cond z (Some (first-high n (pins-asked (request-at b bs)))) (search-high (body-size b) (suc n) bs)) ≡ Some (first-high n (pins-asked (request-at b bs)))
     found {x} {y} {z} p q r = rw (p, q, r)
 
 -- and otherwise it goes on after the record.
 pub search-goes-on : (n : ℕ) (bytes : List ℕ) → 0 < length bytes → misread (getD bytes 0 0) (drop 1 bytes) ≡ None → n < 512
-  → or-of (map (leb n) (pins-asked (request-of bytes))) ≡ false → search-high 0 n bytes ≡ search-high 0 (n + 1) (drop (record-length bytes) bytes)
+    → or-of (map (leb n) (pins-asked (request-of bytes))) ≡ false → search-high 0 n bytes ≡ search-high 0 (n + 1) (drop (record-length bytes) bytes)
 search-goes-on n [] some read few high = absurd (omega arith)
 search-goes-on n (b ∷ bs) some read few high =
     let x = ap isSome read in
@@ -121,7 +123,7 @@ search-goes-on n (b ∷ bs) some read few high =
     goes x y high ∙ search-skips (body-size b) (suc n) bs ∙ ap (λ (m : ℕ). search-high 0 m (drop (body-size b) bs)) (sym (add-one n))
   where
     goes : {x y z : Bool} → x ≡ false → y ≡ false → z ≡ false
-      → cond (x || y) None (cond z (Some (first-high n (pins-asked (request-at b bs)))) (search-high (body-size b) (suc n) bs)) ≡ search-high (body-size b) (suc n) bs
+        → cond (x || y) None (cond z (Some (first-high n (pins-asked (request-at b bs)))) (search-high (body-size b) (suc n) bs)) ≡ search-high (body-size b) (suc n) bs
     goes {x} {y} {z} p q r = rw (p, q, r)
 
 -- A kind that is no record's, and a body that is cut, cannot be read.
@@ -140,10 +142,13 @@ misread-cut bytes size kind long short =
     lacks : (bytes : List ℕ) → record-length bytes ≡ size → length bytes < size → (length (drop 1 bytes) < body-size (getD bytes 0 0)) ⊎ (length bytes ≡ 0)
     lacks [] p q = inr refl
     lacks (b ∷ bs) p q = inl (omega arith)
+
     passes : {x y : Bool} → x ≡ true → y ≡ true → cond (not x) (Some UnknownKind) (cond y (Some CutShort) None) ≡ Some CutShort
     passes {x} {y} p q = rw (p, q)
+
     cut : length (drop 1 bytes) < body-size (getD bytes 0 0) → misread (getD bytes 0 0) (drop 1 bytes) ≡ Some CutShort
     cut h = passes kind (lt-ltb (length (drop 1 bytes)) (body-size (getD bytes 0 0)) h)
+
     none : length bytes ≡ 0 → misread (getD bytes 0 0) (drop 1 bytes) ≡ Some CutShort
     none h = go bytes h kind
       where

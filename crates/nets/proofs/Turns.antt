@@ -13,7 +13,7 @@ after-all-push net s (y ∷ ys) x = after-all-push net (after net s y) ys x
 
 -- One step more is allowed where it is allowed at the end.
 pub allowed-push : (net : List Plain) (s : State) (xs : List Step) (x : Step) → Allowed-all net s xs → Allowed net (after-all net s xs) x
-  → Allowed-all net s (xs ++ x ∷ [])
+    → Allowed-all net s (xs ++ x ∷ [])
 allowed-push net s [] x a b = (b, tt)
 allowed-push net s (y ∷ ys) x (p, a) b = (p, allowed-push net (after net s y) ys x a b)
 
@@ -62,11 +62,12 @@ comes-also net t u P Q l f r =
       loses-none = r .loses-none;
       in-turn = r .in-turn;
       until = omega arith;
-      comes = f (ending net (r .order)) (r .comes) }
+      comes = f (ending net (r .order)) (r .comes);
+    }
 
 -- One step more, that is allowed, in turn, and loses no pulse.
 pub comes-next : (net : List Plain) (t : ℕ) (P Q : State → Type 0) (x : Step) → t ≤ turn x → Loses-none (x ∷ [])
-  → ((s : State) → P s → Allowed net s x) → ((s : State) → P s → Q (after net s x)) → Comes-to net t P → Comes-to net (turn x) Q
+    → ((s : State) → P s → Allowed net s x) → ((s : State) → P s → Q (after net s x)) → Comes-to net t P → Comes-to net (turn x) Q
 comes-next net t P Q x l n a f r =
     let o = r .order in
     let m = r .until in
@@ -77,4 +78,5 @@ comes-next net t P Q x l n a f r =
       loses-none = loses-none-push o x (r .loses-none) n;
       in-turn = in-turn-push 0 o x (r .in-turn) (omega arith);
       until = omega arith;
-      comes = subst Q (sym (after-all-push net rest o x)) (f (ending net o) (r .comes)) }
+      comes = subst Q (sym (after-all-push net rest o x)) (f (ending net o) (r .comes));
+    }

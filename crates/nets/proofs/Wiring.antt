@@ -52,13 +52,13 @@ take-transients n net l =
     let us = take n net in
     let (more, e) = transients-after-more (transients us) (drop n net) in
     let s : transients net ≡ transients us ++ more =
-        ap transients (sym (take-append-drop n net)) ∙ transients-after-append [] us (drop n net) ∙ e in
+    ap transients (sym (take-append-drop n net)) ∙ transients-after-append [] us (drop n net) ∙ e in
     let k : length (transients us) ≡ n = length-transients us ∙ length-take-le n net l in
     ap (take n) s ∙ take-at (transients us) more n k
 
 -- The transient of a standing wire is worked from the transients before it.
 pub transient-standing : (net : List Plain) (w : ℕ) (d : Plain) → w < length net
-  → transient net w ≡ transient-after (take w (transients net)) (getD net w d)
+    → transient net w ≡ transient-after (take w (transients net)) (getD net w d)
 transient-standing net w d l =
     let us = take w net in
     let u = getD net w d in
@@ -66,14 +66,14 @@ transient-standing net w d l =
     let (more, e) = transients-after-more (transients us ++ t ∷ []) (drop (w + 1) net) in
     let p : net ≡ us ++ u ∷ drop (w + 1) net = sym (take-append-drop w net) ∙ ap (λ (vs : List Plain). us ++ vs) (drop-more net w d l) in
     let s : transients net ≡ transients us ++ t ∷ more =
-        ap transients p ∙ transients-after-append [] us (u ∷ drop (w + 1) net) ∙ e ∙ append-assoc (transients us) (t ∷ []) more in
+    ap transients p ∙ transients-after-append [] us (u ∷ drop (w + 1) net) ∙ e ∙ append-assoc (transients us) (t ∷ []) more in
     let k : length (transients us) ≡ w = length-transients us ∙ length-take-le w net (omega arith) in
     let q : transient net w ≡ t = ap (λ (ts : List Transient). getD ts w zero-word) s ∙ getD-at (transients us) t more zero-word w k in
     q ∙ ap (λ (ts : List Transient). transient-after ts u) (sym (take-transients w net (omega arith)))
 
 -- Functions that agree below w agree on pins that name wires below w.
 pub map-lower : {X : Type 0} (f g : ℕ → X) (ps : List ℕ) (w : ℕ) → ((i : ℕ) → i < length ps → getD ps i 0 < w)
-  → ((p : ℕ) → p < w → f p ≡ g p) → map f ps ≡ map g ps
+    → ((p : ℕ) → p < w → f p ≡ g p) → map f ps ≡ map g ps
 map-lower f g [] w l e = refl
 map-lower {X} f g (p ∷ ps) w l e =
     let h : f p ≡ g p = e p (l 0 (omega arith)) in
@@ -82,7 +82,7 @@ map-lower {X} f g (p ∷ ps) w l e =
 
 -- A wire whose pins name lower wires is worked from the transients below it.
 pub transient-after-lower : (ts : List Transient) (w : ℕ) (p : Plain) → ((i : ℕ) → i < length (pins-of p) → getD (pins-of p) i 0 < w)
-  → transient-after (take w ts) p ≡ transient-after ts p
+    → transient-after (take w ts) p ≡ transient-after ts p
 transient-after-lower ts w (input b n) l = refl
 transient-after-lower ts w (gate k ps) l =
     ap (gate-transient k) (map-lower (λ p. getD (take w ts) p zero-word) (λ p. getD ts p zero-word) ps w l (λ p m. getD-take w ts p zero-word m))
@@ -91,12 +91,13 @@ transient-after-lower ts w (gate k ps) l =
 pub transient-lower : (net : List Plain) → Lower net → (w : ℕ) → transient net w ≡ transient-after (transients net) (wire-at net w)
 transient-lower net lower w =
     elim (cases-lt w (length net)) [
-      inl l ↦
-        transient-standing net w (input false 0) l ∙ transient-after-lower (transients net) w (wire-at net w) (lower w)
-    | inr m ↦
-        let n = length-transients net in
-        let e = getD-past net w (input false 0) m in
-        getD-past (transients net) w zero-word (omega arith) ∙ ap (transient-after (transients net)) (sym e) ]
+      | inl l ↦
+          transient-standing net w (input false 0) l ∙ transient-after-lower (transients net) w (wire-at net w) (lower w)
+      | inr m ↦
+          let n = length-transients net in
+          let e = getD-past net w (input false 0) m in
+          getD-past (transients net) w zero-word (omega arith) ∙ ap (transient-after (transients net)) (sym e)
+    ]
 
 -- The start at a place of transients.
 pub getD-starts : (ts : List Transient) (p : ℕ) → getD (starts ts) p false ≡ getD ts p zero-word .start
@@ -121,7 +122,7 @@ starts-after-transients ts [] = refl
 starts-after-transients ts (w ∷ ws) =
     let t = transient-after ts w in
     let e : starts ts ++ function-of w (map (λ q. getD (starts ts) q false) (pins-of w)) ∷ [] ≡ starts (ts ++ t ∷ []) =
-        ap (λ (b : Bool). starts ts ++ b ∷ []) (value-start ts w) ∙ sym (map-push (λ (x : Transient). x .start) ts t) in
+    ap (λ (b : Bool). starts ts ++ b ∷ []) (value-start ts w) ∙ sym (map-push (λ (x : Transient). x .start) ts t) in
     ap (λ (bs : List Bool). starts-after bs ws) e ∙ starts-after-transients (ts ++ t ∷ []) ws
 
 -- The start of a wire is that of its transient.
@@ -135,17 +136,19 @@ lower-none w i l = absurd (omega arith)
 
 -- A net stays one whose pins name lower wires where the pins of one wire more name standing wires.
 pub lower-push : (net : List Plain) (p : Plain) → Lower net → ((i : ℕ) → i < length (pins-of p) → getD (pins-of p) i 0 < length net)
-  → Lower (net ++ p ∷ [])
+    → Lower (net ++ p ∷ [])
 lower-push net p lower l w i k =
     elim (cases-lt w (length net)) [
-      inl m ↦
-        let e = getD-append-left net (p ∷ []) (input false 0) w m in
-        subst (λ (q : Plain). i < length (pins-of q) → getD (pins-of q) i 0 < w) (sym e) (lower w i) k
-    | inr m ↦ elim (cases-eq (length net) w) [
-          inl e ↦
+      | inl m ↦
+          let e = getD-append-left net (p ∷ []) (input false 0) w m in
+          subst (λ (q : Plain). i < length (pins-of q) → getD (pins-of q) i 0 < w) (sym e) (lower w i) k
+      | inr m ↦ elim (cases-eq (length net) w) [
+        | inl e ↦
             let h : i < length (pins-of p) → getD (pins-of p) i 0 < w = λ b. (let c = l i b in omega arith) in
             subst (λ (q : Plain). i < length (pins-of q) → getD (pins-of q) i 0 < w) (sym (getD-push net p (input false 0) w e)) h k
         | inr d ↦
             let n = length-push net p in
             let z = ap (λ (q : Plain). length (pins-of q)) (getD-past (net ++ p ∷ []) w (input false 0) (omega arith)) in
-            absurd (omega arith) ] ]
+            absurd (omega arith)
+      ]
+    ]

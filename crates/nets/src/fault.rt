@@ -66,7 +66,12 @@ pub impl From<Reason> for ReadFault as ReadFaultFromReason {
     ghost converts = { λ e r. r ≡ unplaced e };
 
     fn from(reason: Reason) -> ReadFault {
-        ReadFault { reason, offset: 0, wire: 0, pin: 0 }
+        ReadFault {
+            reason,
+            offset: 0,
+            wire: 0,
+            pin: 0,
+        }
     }
 }
 
@@ -104,6 +109,11 @@ impl ReadFault {
     pub(crate) fn placed(self, offset: usize, wire: usize, pin: usize) -> ReadFault
         ensures { λ r. ⌜ r ≡ at-place (self .reason) offset wire pin ⌝ }
     {
-        ReadFault { reason: self.reason, offset, wire, pin }
+        ReadFault {
+            reason: self.reason,
+            offset,
+            wire,
+            pin,
+        }
     }
 }

@@ -111,10 +111,18 @@ pub impl Algebra for Counted as CountedAlgebra {
         let n = self.count(y) as u32;
         // A word 1 decides the sum, and a word 0 leaves the other.
         if m == 0 {
-            return if x.start { self.of_changes(true, true, 0) } else { self.read(y) };
+            return if x.start {
+                self.of_changes(true, true, 0)
+            } else {
+                self.read(y)
+            };
         }
         if n == 0 {
-            return if y.start { self.of_changes(true, true, 0) } else { self.read(x) };
+            return if y.start {
+                self.of_changes(true, true, 0)
+            } else {
+                self.read(x)
+            };
         }
         let shared = (x.start & y.start) as u32 + (x.end & y.end) as u32;
         self.of_changes(x.start | y.start, x.end | y.end, m + n - shared)

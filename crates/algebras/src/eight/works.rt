@@ -22,7 +22,11 @@ impl Eight {
     fn of_changes(&self, start: bool, end: bool, changes: u16) -> EightGrade
         ensures { λ r. ⌜ r ≡ of-changes start «end» changes ⌝ }
     {
-        EightGrade { start, end, more: changes > 1 }
+        EightGrade {
+            start,
+            end,
+            more: changes > 1,
+        }
     }
 }
 
@@ -53,7 +57,11 @@ pub impl Algebra for Eight as EightAlgebra {
     }
 
     fn complement(&self, x: EightGrade) -> EightGrade {
-        EightGrade { start: !x.start, end: !x.end, more: x.more }
+        EightGrade {
+            start: !x.start,
+            end: !x.end,
+            more: x.more,
+        }
     }
 
     fn sum(&self, x: EightGrade, y: EightGrade) -> EightGrade {
@@ -75,7 +83,11 @@ pub impl Algebra for Eight as EightAlgebra {
     }
 
     fn exclusive_sum(&self, x: EightGrade, y: EightGrade) -> EightGrade {
-        self.of_changes(x.start ^ y.start, x.end ^ y.end, self.count(x) + self.count(y))
+        self.of_changes(
+            x.start ^ y.start,
+            x.end ^ y.end,
+            self.count(x) + self.count(y),
+        )
     }
 
     fn same(&self, x: EightGrade, y: EightGrade) -> bool {

@@ -14,29 +14,89 @@ const COMPLEMENTS: [u8; 5] = [1, 0, 3, 2, 4];
 
 // The sum of two codes x and y, at 5 * x + y.
 const SUMS: [u8; 25] = [
-    0, 1, 2, 3, 4, // 0
-    1, 1, 1, 1, 1, // 1
-    2, 1, 2, 4, 4, // 0/1
-    3, 1, 4, 3, 4, // 1/0
-    4, 1, 4, 4, 4, // ½
+    0,
+    1,
+    2,
+    3,
+    4, // 0
+    1,
+    1,
+    1,
+    1,
+    1, // 1
+    2,
+    1,
+    2,
+    4,
+    4, // 0/1
+    3,
+    1,
+    4,
+    3,
+    4, // 1/0
+    4,
+    1,
+    4,
+    4,
+    4, // ½
 ];
 
 // The product, at the same place.
 const PRODUCTS: [u8; 25] = [
-    0, 0, 0, 0, 0, // 0
-    0, 1, 2, 3, 4, // 1
-    0, 2, 2, 4, 4, // 0/1
-    0, 3, 4, 3, 4, // 1/0
-    0, 4, 4, 4, 4, // ½
+    0,
+    0,
+    0,
+    0,
+    0, // 0
+    0,
+    1,
+    2,
+    3,
+    4, // 1
+    0,
+    2,
+    2,
+    4,
+    4, // 0/1
+    0,
+    3,
+    4,
+    3,
+    4, // 1/0
+    0,
+    4,
+    4,
+    4,
+    4, // ½
 ];
 
 // The exclusive sum, at the same place.
 const EXCLUSIVE_SUMS: [u8; 25] = [
-    0, 1, 2, 3, 4, // 0
-    1, 0, 3, 2, 4, // 1
-    2, 3, 4, 4, 4, // 0/1
-    3, 2, 4, 4, 4, // 1/0
-    4, 4, 4, 4, 4, // ½
+    0,
+    1,
+    2,
+    3,
+    4, // 0
+    1,
+    0,
+    3,
+    2,
+    4, // 1
+    2,
+    3,
+    4,
+    4,
+    4, // 0/1
+    3,
+    2,
+    4,
+    4,
+    4, // 1/0
+    4,
+    4,
+    4,
+    4,
+    4, // ½
 ];
 
 impl Symbol {
@@ -96,27 +156,39 @@ pub impl Algebra for Five as FiveAlgebra {
             (true, 1) => Symbol::Fall,
             (_, _) => Symbol::Half,
         };
-        FiveGrade { code: symbol.code() }
+        FiveGrade {
+            code: symbol.code(),
+        }
     }
 
     fn read(&self, x: FiveGrade) -> FiveGrade {
-        FiveGrade { code: self.symbol(x).code() }
+        FiveGrade {
+            code: self.symbol(x).code(),
+        }
     }
 
     fn complement(&self, x: FiveGrade) -> FiveGrade {
-        FiveGrade { code: COMPLEMENTS[self.symbol(x).code() as usize] }
+        FiveGrade {
+            code: COMPLEMENTS[self.symbol(x).code() as usize],
+        }
     }
 
     fn sum(&self, x: FiveGrade, y: FiveGrade) -> FiveGrade {
-        FiveGrade { code: SUMS[self.place(x, y)] }
+        FiveGrade {
+            code: SUMS[self.place(x, y)],
+        }
     }
 
     fn product(&self, x: FiveGrade, y: FiveGrade) -> FiveGrade {
-        FiveGrade { code: PRODUCTS[self.place(x, y)] }
+        FiveGrade {
+            code: PRODUCTS[self.place(x, y)],
+        }
     }
 
     fn exclusive_sum(&self, x: FiveGrade, y: FiveGrade) -> FiveGrade {
-        FiveGrade { code: EXCLUSIVE_SUMS[self.place(x, y)] }
+        FiveGrade {
+            code: EXCLUSIVE_SUMS[self.place(x, y)],
+        }
     }
 
     fn same(&self, x: FiveGrade, y: FiveGrade) -> bool {

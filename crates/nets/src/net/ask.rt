@@ -44,6 +44,10 @@ impl<L: Telling> Net<L> {
         let start = self.algebra.start(entry);
         let end = self.algebra.end(entry);
         let verdict = self.algebra.verdict(entry);
-        Ok(Told { start, end, verdict })
+        Ok(Told {
+            start,
+            end,
+            verdict,
+        })
     }
 }

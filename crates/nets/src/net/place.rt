@@ -42,7 +42,12 @@ impl<L: Algebra> Net<L> {
     }
 
     /// Places an input as the next wire, fills its entry and answers its number.
-    pub fn place_input(&mut self, column: &mut [L::Grade], start: u8, changes: u8) -> Result<usize, NetFault>
+    pub fn place_input(
+        &mut self,
+        column: &mut [L::Grade],
+        start: u8,
+        changes: u8,
+    ) -> Result<usize, NetFault>
         ensures answer { λ r. ⌜ r ≡ answer-of-placing (now (self .entry)) (now (column .entry)) (ask-input start changes) ⌝ }
         ensures net { λ _. ⌜ net-wires (now (self .exit)) ≡ wires-after-placing (now (self .entry)) (now (column .entry)) (ask-input start changes) ⌝ }
         ensures algebra { λ _. ⌜ now (self .exit) .algebra ≡ now (self .entry) .algebra ⌝ }
@@ -59,7 +64,12 @@ impl<L: Algebra> Net<L> {
     }
 
     /// Places a gate as the next wire, works its grade from its pins' entries, and answers its number.
-    pub fn place_gate(&mut self, column: &mut [L::Grade], kind: u8, pins: &[u16]) -> Result<usize, NetFault>
+    pub fn place_gate(
+        &mut self,
+        column: &mut [L::Grade],
+        kind: u8,
+        pins: &[u16],
+    ) -> Result<usize, NetFault>
         ensures answer { λ r. ⌜ r ≡ answer-of-placing (now (self .entry)) (now (column .entry)) (ask-gate kind (now (pins .entry))) ⌝ }
         ensures net { λ _. ⌜ net-wires (now (self .exit)) ≡ wires-after-placing (now (self .entry)) (now (column .entry)) (ask-gate kind (now (pins .entry))) ⌝ }
         ensures algebra { λ _. ⌜ now (self .exit) .algebra ≡ now (self .entry) .algebra ⌝ }

@@ -35,7 +35,13 @@ fn give<L: Algebra>(algebra: &L, kind: Kind, x: L::Grade) -> L::Grade
 }
 
 // The entry of a first pin, joined with the entries of the others from the first on.
-fn join_pins<L: Algebra>(algebra: &L, column: &[L::Grade], kind: Kind, first: L::Grade, others: &[u16]) -> L::Grade
+fn join_pins<L: Algebra>(
+    algebra: &L,
+    column: &[L::Grade],
+    kind: Kind,
+    first: L::Grade,
+    others: &[u16],
+) -> L::Grade
     requires { ⌜ Below (length (now column)) (now others) ⌝ }
     ensures { λ r. ⌜ r ≡ joined (joins L·Algebra (now (algebra .entry)) kind) first (entries L·Algebra (now (algebra .entry)) (now (column .entry)) (now (others .entry))) ⌝ }
 {

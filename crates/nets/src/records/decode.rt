@@ -79,7 +79,10 @@ impl RecordPins {
         ensures { λ r. ⌜ record-pins r ≡ pins-asked (request-of (now (bytes .entry))) ⌝ }
     {
         if bytes[0] == INPUT {
-            return RecordPins { wires: [0; 15], count: 0 };
+            return RecordPins {
+                wires: [0; 15],
+                count: 0,
+            };
         }
         RecordPins::decode(&bytes[1..size])
     }

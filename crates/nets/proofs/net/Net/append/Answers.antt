@@ -21,9 +21,10 @@ pub ghost-self : need.ghost-self
 ghost-self g c =
     let v = c .args .self .now .table .wires in
     let n = v .ok .0 ∙ sym (length-map (vec-items v) plain) in
-    let items = wires-push (vec-items v) (vec-items (c .push-reserved .last .self)) (c .args .wire) (c .push-reserved .ensures .items) in
-    ((omega (arith, c .push-reserved .ensures .len, c .pre .few), (omega (arith, c .push-reserved .ensures .capacity, c .args .self .now .table .room), tt)),
-    (subst Lower (sym items) (lower-push (net-wires (c .args .self .now)) (plain (c .args .wire)) (c .args .self .now .lower) (within-below _ _ (c .pre .lower))), tt))
+    let items = wires-push (vec-items v) (vec-items (c .push-reserved .last .self)) (c .args .wire) (c .push-reserved .ensures .items) in (
+      (omega (arith, c .push-reserved .ensures .len, c .pre .few), (omega (arith, c .push-reserved .ensures .capacity, c .args .self .now .table .room), tt)),
+      (subst Lower (sym items) (lower-push (net-wires (c .args .self .now)) (plain (c .args .wire)) (c .args .self .now .lower) (within-below _ _ (c .pre .lower))), tt),
+    )
 
 pub returns : need.returns
 returns g c =

@@ -24,13 +24,13 @@ returns g c =
     let t = transient (net-wires n) (c .args .wire) in
     record {
       answer =
-        ap Ok (same-told _ (telling (g .L·Telling) a _)
-        (c .start-start .ensures .value ∙ ap (g .L·Telling .starts a) (sym (s .1)))
-        (c .end-end .ensures .value ∙ ap (g .L·Telling .ends a) (sym (s .1)))
-        (c .verdict-verdict .ensures .value ∙ ap (g .L·Telling .verdicts a) (sym (s .1))))
-        ∙ unless-passed _ _ (s .0);
+          ap Ok (same-told _ (telling (g .L·Telling) a _)
+          (c .start-start .ensures .value ∙ ap (g .L·Telling .starts a) (sym (s .1)))
+          (c .end-end .ensures .value ∙ ap (g .L·Telling .ends a) (sym (s .1)))
+          (c .verdict-verdict .ensures .value ∙ ap (g .L·Telling .verdicts a) (sym (s .1))))
+          ∙ unless-passed _ _ (s .0);
       kept = λ kept.
-        let e = sym (s .1) ∙ standing-kept (g .L·Algebra) a (net-wires n) _ kept _ (asked-stands _ _ _ (s .0)) in
-        ap Ok (same-told _ (told-of t) (c .start-start .ensures .told t e) (c .end-end .ensures .told t e) (c .verdict-verdict .ensures .told t e))
-        ∙ unless-passed _ _ (s .0);
+          let e = sym (s .1) ∙ standing-kept (g .L·Algebra) a (net-wires n) _ kept _ (asked-stands _ _ _ (s .0)) in
+          ap Ok (same-told _ (told-of t) (c .start-start .ensures .told t e) (c .end-end .ensures .told t e) (c .verdict-verdict .ensures .told t e))
+          ∙ unless-passed _ _ (s .0);
     }

@@ -34,10 +34,11 @@ loop-at-again c =
     let read = readable rest _ (known-from _ (size .0)) (size .1) (c .if-record-size .left) in
     let ps = c .as-slice-named-items .ensures ∙ c .of-pins .ensures in
     let low = sym (ap (λ (qs : List ℕ). or-of (map (leb w) qs)) ps) ∙ sym (c .loop-pin .inv .0) ∙ high-none w (c .as-slice-named-items .result .now) (c .loop-pin .pin) (c .loop-pin-test .left) in
-    let on = search-goes-on w rest (omega arith) read (c .if-wire-ge512 .left) low in
-    (omega arith,
-    ap (search-high 0 (w + 1)) (sym (rest-drop bytes (c .loop-at .at) (c .in-Ok .size)) ∙ ap (λ (n : ℕ). drop n rest) (sym (size .1)))
-    ∙ sym on ∙ ap (search-high 0 w) (take-rest bytes (c .loop-at .at)) ∙ c .loop-at .inv .1)
+    let on = search-goes-on w rest (omega arith) read (c .if-wire-ge512 .left) low in (
+      omega arith,
+      ap (search-high 0 (w + 1)) (sym (rest-drop bytes (c .loop-at .at) (c .in-Ok .size)) ∙ ap (λ (n : ℕ). drop n rest) (sym (size .1)))
+          ∙ sym on ∙ ap (search-high 0 w) (take-rest bytes (c .loop-at .at)) ∙ c .loop-at .inv .1,
+    )
 
 pub returns-in-rest : need.returns-in-rest
 returns-in-rest c =
@@ -55,9 +56,9 @@ returns-then-record-size c =
     let rest = take (length bytes - c .loop-at .at) (drop (c .loop-at .at) bytes) in
     let size = unless-ok _ _ _ (sym (c .in-Ok .ensures tt)) in
     sym (search-stops w rest (⊎-elim
-        (λ short. or-left _ _ (ap isSome (misread-cut rest _ (known-from _ (size .0)) (size .1) short)))
-        (λ full. or-right _ _ (le-leb 512 w (full .1)))
-        (c .then-record-size .either)))
+    (λ short. or-left _ _ (ap isSome (misread-cut rest _ (known-from _ (size .0)) (size .1) short)))
+    (λ full. or-right _ _ (le-leb 512 w (full .1)))
+    (c .then-record-size .either)))
     ∙ ap (search-high 0 w) (take-rest bytes (c .loop-at .at)) ∙ c .loop-at .inv .1
 
 pub returns-then-named-wire : need.returns-then-named-wire

@@ -9,7 +9,7 @@ returns c =
     let h = c .args .self .now .sound in
     let x = c .args .x in
     let value =
-        c .by .ensures
-        ∙ ap (verdict-by (x .start) (x .«end»)) (c .count .ensures .value)
-        ∙ sym (verdict-is k h x) in
+    c .by .ensures
+    ∙ ap (verdict-by (x .start) (x .«end»)) (c .count .ensures .value)
+    ∙ sym (verdict-is k h x) in
     record { value = value; told = λ t e. value ∙ verdict-told k h x t e }
