@@ -8,7 +8,7 @@ use native.Mathlib.Numerals.{add-one}
 use native.Mathlib.Omega.{arith}
 use lib.Dec.{eqb, leb, ltb}
 use lib.ListN.{length, getD, set, take, drop}
-use Rattle.std.proofs.shelf.Lists.{take-rest, length-push, drop-all}
+use Rattle.std.proofs.shelf.Lists.{take-rest, length-push, length-set, drop-all}
 use Rattle.std.proofs.shelf.Tests.{cases-bool, eqb-true, leb-false, ltb-false}
 use Rattle.std.specs.declared.option.Option.{Option}
 use Rattle.std.specs.declared.option.Option.the-variants.{Some, None}
@@ -23,7 +23,7 @@ use Rattle.nets.specs.declared.fault.Reason.{Reason}
 use Rattle.nets.specs.declared.fault.Reason.the-variants.{UnknownKind, CutShort, Refused}
 use Rattle.nets.specs.Faults.{net-fault-number, settled}
 use Rattle.nets.specs.Placing.{Request, ask-input, ask-gate, count-allowed, refusal, asked}
-use Rattle.nets.specs.Records.{at-place, body-size, carried, first-high, known, misread, or-else, Outcome, pin-of, pins-asked, reading, reason-at, reason-number, reason-of, record-length, request-at, request-of, search-high, stopped}
+use Rattle.nets.specs.Records.{at-place, body-size, carried, column-reading, first-high, known, misread, or-else, Outcome, pin-of, pins-asked, reading, reason-at, reason-number, reason-of, record-length, request-at, request-of, search-high, stopped}
 use Rattle.nets.specs.Wires.{Plain}
 use Rattle.nets.specs.Working.{worked}
 use Rattle.nets.proofs.Placements.{settled-passed, settled-refused}
@@ -148,47 +148,69 @@ pub mapped-none : {X Y : Type 0} (f : X → Y) (o : Option X) → mapped f o ≡
 mapped-none f None e = refl
 mapped-none f (Some x) e = absurd (let z : _≡_ {A = ℕ} 0 1 = cc in omega arith)
 
-module _ {X G : Type 0} (L : Ghosts X G) (a : X) where
-  -- Bytes of a body are passed over.
-  pub reading-skips : (k at count : ℕ) (ws : List Plain) (column : List G) (bs : List ℕ) → reading L a at k count ws column bs ≡ reading L a (at + k) 0 count ws column (drop k bs)
-  reading-skips zero at count ws column bs =
-      let e : at ≡ at + 0 = omega arith in
-      ap (λ (n : ℕ). reading L a n 0 count ws column bs) e
-  reading-skips (suc k) at count ws column [] = refl
-  reading-skips (suc k) at count ws column (b ∷ bs) =
-      let e : suc at + k ≡ at + suc k = omega arith in
-      reading-skips k (suc at) count ws column bs ∙ ap (λ (n : ℕ). reading L a n 0 count ws column (drop k bs)) e
+-- Bytes of a body are passed over.
+pub reading-skips : (long k at count : ℕ) (ws : List Plain) (bs : List ℕ) → reading long at k count ws bs ≡ reading long (at + k) 0 count ws (drop k bs)
+reading-skips long zero at count ws bs =
+    let e : at ≡ at + 0 = omega arith in
+    ap (λ (n : ℕ). reading long n 0 count ws bs) e
+reading-skips long (suc k) at count ws [] = refl
+reading-skips long (suc k) at count ws (b ∷ bs) =
+    let e : suc at + k ≡ at + suc k = omega arith in
+    reading-skips long k (suc at) count ws bs ∙ ap (λ (n : ℕ). reading long n 0 count ws (drop k bs)) e
 
-  -- A record that is refused ends the reading.
-  pub reading-ends : (at count : ℕ) (ws : List Plain) (column : List G) (bytes : List ℕ) (r : Reason) → 0 < length bytes → reason-of ws (length column) bytes ≡ Some r
-      → reading L a at 0 count ws column bytes ≡ record { wires = ws; column = column; answer = Err (at-place r at (length ws) (pin-of r (length ws) (request-of bytes))) }
-  reading-ends at count ws column [] r some refused = absurd (omega arith)
-  reading-ends at count ws column (b ∷ bs) r some refused =
-      ap (λ (o : Option Reason). stopped o
-      (λ r. record { wires = ws; column = column; answer = Err (at-place r at (length ws) (pin-of r (length ws) (request-at b bs))) })
-      (reading L a (suc at) (body-size b) (suc count) (ws ++ asked (request-at b bs) ∷ []) (set column (length ws) (worked L a column (asked (request-at b bs)))) bs))
+-- A record that is refused ends the reading.
+pub reading-ends : (long at count : ℕ) (ws : List Plain) (bytes : List ℕ) (r : Reason) → 0 < length bytes → reason-of ws long bytes ≡ Some r
+  → reading long at 0 count ws bytes ≡ record { wires = ws; answer = Err (at-place r at (length ws) (pin-of r (length ws) (request-of bytes))) }
+reading-ends long at count ws [] r some refused = absurd (omega arith)
+reading-ends long at count ws (b ∷ bs) r some refused =
+    ap (λ (o : Option Reason). stopped o
+        (λ r. record { wires = ws; answer = Err (at-place r at (length ws) (pin-of r (length ws) (request-at b bs))) })
+        (reading long (suc at) (body-size b) (suc count) (ws ++ asked (request-at b bs) ∷ []) bs))
+    refused
+
+-- After a record that is placed, what is left is read.
+pub reading-goes-on : (long at count : ℕ) (ws : List Plain) (bytes : List ℕ) → 0 < length bytes → reason-of ws long bytes ≡ None
+  → reading long at 0 count ws bytes ≡ reading long (at + record-length bytes) 0 (count + 1) (ws ++ asked (request-of bytes) ∷ []) (drop (record-length bytes) bytes)
+reading-goes-on long at count ws [] some admitted = absurd (omega arith)
+reading-goes-on long at count ws (b ∷ bs) some admitted =
+    let ws′ = ws ++ asked (request-at b bs) ∷ [] in
+    let e : suc at + body-size b ≡ at + suc (body-size b) = omega arith in
+    ap (λ (o : Option Reason). stopped o
+        (λ r. record { wires = ws; answer = Err (at-place r at (length ws) (pin-of r (length ws) (request-at b bs))) })
+        (reading long (suc at) (body-size b) (suc count) ws′ bs))
+    admitted
+    ∙ reading-skips long (body-size b) (suc at) (suc count) ws′ bs
+    ∙ ap (λ (n : ℕ). reading long n 0 (suc count) ws′ (drop (body-size b) bs)) e
+    ∙ ap (λ (n : ℕ). reading long (at + suc (body-size b)) 0 n ws′ (drop (body-size b) bs)) (sym (add-one count))
+
+module _ {X G : Type 0} (L : Ghosts X G) (a : X) where
+  -- The same of the column.
+  pub column-skips : (k : ℕ) (ws : List Plain) (column : List G) (bs : List ℕ) → column-reading L a k ws column bs ≡ column-reading L a 0 ws column (drop k bs)
+  column-skips zero ws column bs = refl
+  column-skips (suc k) ws column [] = refl
+  column-skips (suc k) ws column (b ∷ bs) = column-skips k ws column bs
+
+  pub column-ends : (ws : List Plain) (column : List G) (bytes : List ℕ) (r : Reason) → 0 < length bytes → reason-of ws (length column) bytes ≡ Some r → column-reading L a 0 ws column bytes ≡ column
+  column-ends ws column [] r some refused = refl
+  column-ends ws column (b ∷ bs) r some refused =
+      ap (λ (o : Option Reason). stopped o (λ r. column)
+          (column-reading L a (body-size b) (ws ++ asked (request-at b bs) ∷ []) (set column (length ws) (worked L a column (asked (request-at b bs)))) bs))
       refused
 
-  -- After a record that is placed, what is left is read.
-  pub reading-goes-on : (at count : ℕ) (ws : List Plain) (column : List G) (bytes : List ℕ) → 0 < length bytes → reason-of ws (length column) bytes ≡ None
-      → reading L a at 0 count ws column bytes
-      ≡ reading L a (at + record-length bytes) 0 (count + 1) (ws ++ asked (request-of bytes) ∷ []) (set column (length ws) (worked L a column (asked (request-of bytes)))) (drop (record-length bytes) bytes)
-  reading-goes-on at count ws column [] some admitted = absurd (omega arith)
-  reading-goes-on at count ws column (b ∷ bs) some admitted =
-      let ws′ = ws ++ asked (request-at b bs) ∷ [] in
-      let column′ = set column (length ws) (worked L a column (asked (request-at b bs))) in
-      let e : suc at + body-size b ≡ at + suc (body-size b) = omega arith in
-      ap (λ (o : Option Reason). stopped o
-      (λ r. record { wires = ws; column = column; answer = Err (at-place r at (length ws) (pin-of r (length ws) (request-at b bs))) })
-      (reading L a (suc at) (body-size b) (suc count) ws′ column′ bs))
+  pub column-goes-on : (ws : List Plain) (column : List G) (bytes : List ℕ) → 0 < length bytes → reason-of ws (length column) bytes ≡ None
+    → column-reading L a 0 ws column bytes
+      ≡ column-reading L a 0 (ws ++ asked (request-of bytes) ∷ []) (set column (length ws) (worked L a column (asked (request-of bytes)))) (drop (record-length bytes) bytes)
+  column-goes-on ws column [] some admitted = absurd (omega arith)
+  column-goes-on ws column (b ∷ bs) some admitted =
+      ap (λ (o : Option Reason). stopped o (λ r. column)
+          (column-reading L a (body-size b) (ws ++ asked (request-at b bs) ∷ []) (set column (length ws) (worked L a column (asked (request-at b bs)))) bs))
       admitted
-      ∙ reading-skips (body-size b) (suc at) (suc count) ws′ column′ bs
-      ∙ ap (λ (n : ℕ). reading L a n 0 (suc count) ws′ column′ (drop (body-size b) bs)) e
-      ∙ ap (λ (n : ℕ). reading L a (at + suc (body-size b)) 0 n ws′ column′ (drop (body-size b) bs)) (sym (add-one count))
+      ∙ column-skips (body-size b) (ws ++ asked (request-at b bs) ∷ []) (set column (length ws) (worked L a column (asked (request-at b bs)))) bs
 
 -- One turn of reading, at offset `at` with so many records read: `rest` are the bytes from there on.
-module _ {X G : Type 0} (L : Ghosts X G) (a : X) (bytes : List ℕ) (at count : ℕ) (ws : List Plain) (column : List G) (result : Outcome G) (high : Option ℕ)
-    (within : at < length bytes) (left : reading L a at 0 count ws column (drop at bytes) ≡ result) (search : search-high 0 (length ws) (drop at bytes) ≡ high) where
+module _ {X G : Type 0} (L : Ghosts X G) (a : X) (bytes : List ℕ) (at count : ℕ) (ws : List Plain) (column : List G) (result : Outcome) (entries : List G) (high : Option ℕ)
+    (within : at < length bytes) (left : reading (length column) at 0 count ws (drop at bytes) ≡ result) (left-column : column-reading L a 0 ws column (drop at bytes) ≡ entries)
+    (search : search-high 0 (length ws) (drop at bytes) ≡ high) where
   abbrev rest : List ℕ
   rest = take (length bytes - at) (drop at bytes)
 
@@ -197,50 +219,59 @@ module _ {X G : Type 0} (L : Ghosts X G) (a : X) (bytes : List ℕ) (at count : 
 
   -- A record is placed, and the reading goes on after it.
   pub turn-placed : (size : ℕ) (ws′ : List Plain) (column′ : List G) → reason-of ws (length column) rest ≡ None → record-length rest ≡ size
-      → ws′ ≡ settled (reason-of ws (length column) rest) (ws ++ asked (request-of rest) ∷ []) ws
-      → column′ ≡ settled (reason-of ws (length column) rest) (set column (length ws) (worked L a column (asked (request-of rest)))) column
-      → (at + size ≤ length bytes) × (1 ≤ size)
-      × (reading L a (at + size) 0 (count + 1) ws′ column′ (drop (at + size) bytes) ≡ result)
-      × (search-high 0 (length ws′) (drop (at + size) bytes) ≡ high)
-  turn-placed size ws′ column′ placed long wires entries =
+    → ws′ ≡ settled (reason-of ws (length column) rest) (ws ++ asked (request-of rest) ∷ []) ws
+    → column′ ≡ settled (reason-of ws (length column) rest) (set column (length ws) (worked L a column (asked (request-of rest)))) column
+    → (at + size ≤ length bytes) × (1 ≤ size)
+    × (reading (length column′) (at + size) 0 (count + 1) ws′ (drop (at + size) bytes) ≡ result)
+    × (column-reading L a 0 ws′ column′ (drop (at + size) bytes) ≡ entries)
+    × (search-high 0 (length ws′) (drop (at + size) bytes) ≡ high)
+  turn-placed size ws′ column′ placed long wires filled =
       let h = rest-length bytes at in
       let whole = placed-whole ws (length column) rest some-rest placed in
       let ws-is = wires ∙ sym (settled-passed (reason-of ws (length column) rest) (ws ++ asked (request-of rest) ∷ []) ws placed) in
-      let column-is = entries ∙ sym (settled-passed (reason-of ws (length column) rest) (set column (length ws) (worked L a column (asked (request-of rest)))) column placed) in
+      let column-is = filled ∙ sym (settled-passed (reason-of ws (length column) rest) (set column (length ws) (worked L a column (asked (request-of rest)))) column placed) in
+      let long-is = ap length column-is ∙ length-set column (length ws) (worked L a column (asked (request-of rest))) in
       let bytes-are = sym (rest-drop bytes at size) ∙ ap (λ (n : ℕ). drop n rest) (sym long) in
-      let on = reading-goes-on L a at count ws column rest some-rest placed in
-      let past = search-past ws (length column) rest some-rest placed in (
-        omega arith,
-        omega arith,
-        ap (λ (n : ℕ). reading L a n 0 (count + 1) ws′ column′ (drop (at + size) bytes)) (ap (λ (n : ℕ). at + n) (sym long))
-            ∙ ap (λ v. reading L a (at + record-length rest) 0 (count + 1) v column′ (drop (at + size) bytes)) ws-is
-            ∙ ap (λ v. reading L a (at + record-length rest) 0 (count + 1) (ws ++ asked (request-of rest) ∷ []) v (drop (at + size) bytes)) column-is
-            ∙ ap (reading L a (at + record-length rest) 0 (count + 1) (ws ++ asked (request-of rest) ∷ []) (set column (length ws) (worked L a column (asked (request-of rest))))) bytes-are
-            ∙ sym on ∙ ap (reading L a at 0 count ws column) (take-rest bytes at) ∙ left,
-        ap (λ (n : ℕ). search-high 0 n (drop (at + size) bytes)) (ap length ws-is ∙ length-push ws (asked (request-of rest)))
-            ∙ ap (search-high 0 (length ws + 1)) bytes-are
-            ∙ sym past ∙ ap (search-high 0 (length ws)) (take-rest bytes at) ∙ search,
-      )
+      let on = reading-goes-on (length column) at count ws rest some-rest placed in
+      let column-on = column-goes-on L a ws column rest some-rest placed in
+      let past = search-past ws (length column) rest some-rest placed in
+      (omega arith, omega arith,
+      ap (λ (n : ℕ). reading n (at + size) 0 (count + 1) ws′ (drop (at + size) bytes)) long-is
+      ∙ ap (λ (n : ℕ). reading (length column) n 0 (count + 1) ws′ (drop (at + size) bytes)) (ap (λ (n : ℕ). at + n) (sym long))
+      ∙ ap (λ v. reading (length column) (at + record-length rest) 0 (count + 1) v (drop (at + size) bytes)) ws-is
+      ∙ ap (reading (length column) (at + record-length rest) 0 (count + 1) (ws ++ asked (request-of rest) ∷ [])) bytes-are
+      ∙ sym on ∙ ap (reading (length column) at 0 count ws) (take-rest bytes at) ∙ left,
+      ap (λ v. column-reading L a 0 v column′ (drop (at + size) bytes)) ws-is
+      ∙ ap (λ v. column-reading L a 0 (ws ++ asked (request-of rest) ∷ []) v (drop (at + size) bytes)) column-is
+      ∙ ap (column-reading L a 0 (ws ++ asked (request-of rest) ∷ []) (set column (length ws) (worked L a column (asked (request-of rest))))) bytes-are
+      ∙ sym column-on ∙ ap (column-reading L a 0 ws column) (take-rest bytes at) ∙ left-column,
+      ap (λ (n : ℕ). search-high 0 n (drop (at + size) bytes)) (ap length ws-is ∙ length-push ws (asked (request-of rest)))
+      ∙ ap (search-high 0 (length ws + 1)) bytes-are
+      ∙ sym past ∙ ap (search-high 0 (length ws)) (take-rest bytes at) ∙ search)
 
   -- A record is refused, and the reading ends.
   pub turn-refused : (r : Reason) (ws′ : List Plain) (column′ : List G) (pin : ℕ) → reason-of ws (length column) rest ≡ Some r
-      → ws′ ≡ settled (reason-of ws (length column) rest) (ws ++ asked (request-of rest) ∷ []) ws
-      → column′ ≡ settled (reason-of ws (length column) rest) (set column (length ws) (worked L a column (asked (request-of rest)))) column
-      → pin ≡ cond (eqb (reason-number r) 9) (valueOr high 0) 0
-      → (Err (at-place r at (length ws′) pin) ≡ result .answer) × (ws′ ≡ result .wires) × (column′ ≡ result .column)
-  turn-refused r ws′ column′ pin refused wires entries pin-is =
+    → ws′ ≡ settled (reason-of ws (length column) rest) (ws ++ asked (request-of rest) ∷ []) ws
+    → column′ ≡ settled (reason-of ws (length column) rest) (set column (length ws) (worked L a column (asked (request-of rest)))) column
+    → pin ≡ cond (eqb (reason-number r) 9) (valueOr high 0) 0
+    → (Err (at-place r at (length ws′) pin) ≡ result .answer) × (ws′ ≡ result .wires) × (column′ ≡ entries)
+  turn-refused r ws′ column′ pin refused wires filled pin-is =
       let ws-is = wires ∙ sym (settled-refused (reason-of ws (length column) rest) (ws ++ asked (request-of rest) ∷ []) ws r refused) in
-      let column-is = entries ∙ sym (settled-refused (reason-of ws (length column) rest) (set column (length ws) (worked L a column (asked (request-of rest)))) column r refused) in
-      let ends = sym (reading-ends L a at count ws column rest r some-rest refused) ∙ ap (reading L a at 0 count ws column) (take-rest bytes at) ∙ left in
-      let found = pin-is ∙ pin-found ws (length column) rest r high some-rest refused (sym search ∙ ap (search-high 0 (length ws)) (sym (take-rest bytes at))) in (
-        ap (λ (n : ℕ). Err (at-place r at (length ws′) n)) found
-            ∙ ap (λ v. Err (at-place r at (length v) (pin-of r (length ws) (request-of rest)))) ws-is
-            ∙ ap (λ (o : Outcome G). o .answer) ends,
-        ws-is ∙ ap (λ (o : Outcome G). o .wires) ends,
-        column-is ∙ ap (λ (o : Outcome G). o .column) ends,
-      )
+      let column-is = filled ∙ sym (settled-refused (reason-of ws (length column) rest) (set column (length ws) (worked L a column (asked (request-of rest)))) column r refused) in
+      let ends = sym (reading-ends (length column) at count ws rest r some-rest refused) ∙ ap (reading (length column) at 0 count ws) (take-rest bytes at) ∙ left in
+      let column-end = sym (column-ends L a ws column rest r some-rest refused) ∙ ap (column-reading L a 0 ws column) (take-rest bytes at) ∙ left-column in
+      let found = pin-is ∙ pin-found ws (length column) rest r high some-rest refused (sym search ∙ ap (search-high 0 (length ws)) (sym (take-rest bytes at))) in
+      (ap (λ (n : ℕ). Err (at-place r at (length ws′) n)) found
+      ∙ ap (λ v. Err (at-place r at (length v) (pin-of r (length ws) (request-of rest)))) ws-is
+      ∙ ap (λ (o : Outcome). o .answer) ends,
+      ws-is ∙ ap (λ (o : Outcome). o .wires) ends,
+      column-is ∙ column-end)
 
 -- Nothing is left.
-pub turn-none : {X G : Type 0} (L : Ghosts X G) (a : X) (bytes : List ℕ) (at count : ℕ) (ws : List Plain) (column : List G) (result : Outcome G)
-    → reading L a at 0 count ws column (drop at bytes) ≡ result → length bytes ≤ at → record { wires = ws; column = column; answer = Ok count } ≡ result
-turn-none L a bytes at count ws column result left past = sym (ap (reading L a at 0 count ws column) (drop-all at bytes past)) ∙ left
+pub turn-none : (long : ℕ) (bytes : List ℕ) (at count : ℕ) (ws : List Plain) (result : Outcome)
+  → reading long at 0 count ws (drop at bytes) ≡ result → length bytes ≤ at → record { wires = ws; answer = Ok count } ≡ result
+turn-none long bytes at count ws result left past = sym (ap (reading long at 0 count ws) (drop-all at bytes past)) ∙ left
+
+pub column-none : {X G : Type 0} (L : Ghosts X G) (a : X) (bytes : List ℕ) (at : ℕ) (ws : List Plain) (column entries : List G)
+  → column-reading L a 0 ws column (drop at bytes) ≡ entries → length bytes ≤ at → column ≡ entries
+column-none L a bytes at ws column entries left past = sym (ap (column-reading L a 0 ws column) (drop-all at bytes past)) ∙ left

@@ -13,7 +13,7 @@ use Rattle.nets.specs.Wires.{Plain, plain}
 use Rattle.nets.specs.Working.{Kept, worked}
 use Rattle.nets.specs.Faults.{settled}
 use Rattle.nets.specs.Placing.{Request, asked, place-answer, placed, filled}
-use Rattle.nets.specs.Records.{Outcome, reading, reason-of, request-of}
+use Rattle.nets.specs.Records.{Outcome, column-reading, reading, reason-of, request-of}
 
 -- The wires of a net.
 abbrev pub net-wires : {X G : Type 0} → Net X G → List Plain
@@ -44,5 +44,8 @@ abbrev pub column-after-record : {X G : Type 0} → Ghosts X G → Net X G → L
 column-after-record L n column bytes = settled (reason-of-record n column bytes) (set column (length (net-wires n)) (worked L (n .algebra) column (asked (request-of bytes)))) column
 
 -- What reading bytes onto a net with a column leaves and answers.
-abbrev pub outcome-of-reading : {X G : Type 0} → Ghosts X G → Net X G → List G → List ℕ → Outcome G
-outcome-of-reading L n column bytes = reading L (n .algebra) 0 0 0 (net-wires n) column bytes
+abbrev pub outcome-of-reading : {X G : Type 0} → Net X G → List G → List ℕ → Outcome
+outcome-of-reading n column bytes = reading (length column) 0 0 0 (net-wires n) bytes
+
+abbrev pub column-after-reading : {X G : Type 0} → Ghosts X G → Net X G → List G → List ℕ → List G
+column-after-reading L n column bytes = column-reading L (n .algebra) 0 (net-wires n) column bytes

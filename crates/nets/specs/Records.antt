@@ -114,10 +114,9 @@ search-high zero n (b ∷ bs) =
     cond (isSome (misread b bs) || leb 512 n) None
     (cond (or-of (map (leb n) (pins-asked (request-at b bs)))) (Some (first-high n (pins-asked (request-at b bs)))) (search-high (body-size b) (suc n) bs))
 
--- What reading leaves and answers.
-pub record Outcome (G : Type 0) : Type 0 where
+-- What reading makes of the plain net, and what it answers.
+pub record Outcome : Type 0 where
   pub wires : List Plain
-  pub column : List G
   pub answer : Result ℕ ReadFault
 
 abbrev pub stopped : {X Y : Type 0} → Option X → (X → Y) → Y → Y
@@ -125,11 +124,19 @@ stopped None stop more = more
 stopped (Some x) stop more = stop x
 
 -- Reading from a byte on, at an offset, with so many bytes of a body still to pass over and so many records read: record after record
--- is placed on the net as it stands, until one is refused; what was placed before it stays.
-abbrev pub reading : {X G : Type 0} → Ghosts X G → X → ℕ → ℕ → ℕ → List Plain → List G → List ℕ → Outcome G
-reading L a at skip count ws column [] = record { wires = ws; column = column; answer = Ok count }
-reading L a at (suc skip) count ws column (b ∷ bs) = reading L a (suc at) skip count ws column bs
-reading L a at zero count ws column (b ∷ bs) =
-    stopped (reason-at ws (length column) b bs)
-    (λ r. record { wires = ws; column = column; answer = Err (at-place r at (length ws) (pin-of r (length ws) (request-at b bs))) })
-    (reading L a (suc at) (body-size b) (suc count) (ws ++ asked (request-at b bs) ∷ []) (set column (length ws) (worked L a column (asked (request-at b bs)))) bs)
+-- is placed on the net as it stands, until one is refused; what was placed before it stays. The column is so long.
+abbrev pub reading : ℕ → ℕ → ℕ → ℕ → List Plain → List ℕ → Outcome
+reading long at skip count ws [] = record { wires = ws; answer = Ok count }
+reading long at (suc skip) count ws (b ∷ bs) = reading long (suc at) skip count ws bs
+reading long at zero count ws (b ∷ bs) =
+    stopped (reason-at ws long b bs)
+    (λ r. record { wires = ws; answer = Err (at-place r at (length ws) (pin-of r (length ws) (request-at b bs))) })
+    (reading long (suc at) (body-size b) (suc count) (ws ++ asked (request-at b bs) ∷ []) bs)
+
+-- The column meanwhile: each record that is placed fills its entry.
+abbrev pub column-reading : {X G : Type 0} → Ghosts X G → X → ℕ → List Plain → List G → List ℕ → List G
+column-reading L a skip ws column [] = column
+column-reading L a (suc skip) ws column (b ∷ bs) = column-reading L a skip ws column bs
+column-reading L a zero ws column (b ∷ bs) =
+    stopped (reason-at ws (length column) b bs) (λ r. column)
+    (column-reading L a (body-size b) (ws ++ asked (request-at b bs) ∷ []) (set column (length ws) (worked L a column (asked (request-at b bs)))) bs)

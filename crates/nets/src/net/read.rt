@@ -6,7 +6,7 @@ ghost use Prim.Native.Nat.{_<_};
 ghost use lib.Dec.{eqb};
 ghost use lib.ListN.{length};
 ghost use Rattle.nets.specs.Faults.{unless};
-ghost use Rattle.nets.specs.Nets.{Column-kept, column-after-record, net-wires, outcome-of-reading, reason-of-record, wires-after-record};
+ghost use Rattle.nets.specs.Nets.{Column-kept, column-after-reading, column-after-record, net-wires, outcome-of-reading, reason-of-record, wires-after-record};
 ghost use Rattle.nets.specs.Records.{reason-number, record-length, search-high, unplaced};
 ghost use Rattle.std.specs.Options.{mapped, valueOr};
 use crate::fault::ReadFault;
@@ -47,10 +47,10 @@ impl<L: Algebra> Net<L> {
     /// Places record after record on the net as it stands, and answers how many. A refused record ends the reading; the wires before it,
     /// with their entries, stay.
     pub fn read(&mut self, column: &mut [L::Grade], bytes: &[u8]) -> Result<usize, ReadFault>
-        ensures answer { λ r. ⌜ r ≡ outcome-of-reading L·Algebra (now (self .entry)) (now (column .entry)) (now (bytes .entry)) .answer ⌝ }
-        ensures net { λ _. ⌜ net-wires (now (self .exit)) ≡ outcome-of-reading L·Algebra (now (self .entry)) (now (column .entry)) (now (bytes .entry)) .wires ⌝ }
+        ensures answer { λ r. ⌜ r ≡ outcome-of-reading (now (self .entry)) (now (column .entry)) (now (bytes .entry)) .answer ⌝ }
+        ensures net { λ _. ⌜ net-wires (now (self .exit)) ≡ outcome-of-reading (now (self .entry)) (now (column .entry)) (now (bytes .entry)) .wires ⌝ }
         ensures algebra { λ _. ⌜ now (self .exit) .algebra ≡ now (self .entry) .algebra ⌝ }
-        ensures column { λ _. ⌜ now (column .exit) ≡ outcome-of-reading L·Algebra (now (self .entry)) (now (column .entry)) (now (bytes .entry)) .column ⌝ }
+        ensures column { λ _. ⌜ now (column .exit) ≡ column-after-reading L·Algebra (now (self .entry)) (now (column .entry)) (now (bytes .entry)) ⌝ }
         ensures kept { λ _. ⌜ (Column-kept L·Algebra (now (self .entry)) (now (column .entry)) → Column-kept L·Algebra (now (self .exit)) (now (column .exit))) ⌝ }
     {
         let wires = self.wires();
