@@ -5,9 +5,9 @@ use mathlib.Core.List.{List, [], _∷_}
 use mathlib.Core.Logic.{_⊎_, inl, inr, ⊎-elim}
 use Prim.Native.Nat.{ℕ, zero, suc, _+_, _*_, _/_, _%_, _-_, _≤_, _<_, min}
 use native.Mathlib.Omega.{arith}
-use lib.Dec.{eqb, ltb}
+use lib.Dec.{eqb, leb, ltb}
 use mir.Val.{boolByte}
-use Rattle.std.proofs.shelf.Tests.{cases-lt, cases-bool, lt-ltb, le-ltb, eqb-true, eqb-false, eq-eqb, ne-eqb, cond-true, cond-false, and-parts, and-from}
+use Rattle.std.proofs.shelf.Tests.{cases-lt, cases-bool, lt-ltb, le-ltb, lt-leb, le-leb, eqb-true, eqb-false, eq-eqb, ne-eqb, cond-true, cond-false, and-parts, and-from}
 use Rattle.algebras.specs.declared.counted.grade.Count.{Count}
 use Rattle.algebras.specs.declared.counted.grade.Count.the-variants.{Half, Saturated}
 use Rattle.algebras.specs.declared.counted.grade.CountedGrade.{CountedGrade}
@@ -16,7 +16,7 @@ use Rattle.algebras.specs.declared.verdict.Verdict.the-variants.{Steady, Stati
 use Rattle.algebras.specs.Transient.{Transient, flipped, end-of, complement, zero-word, one-word}
 use Rattle.algebras.specs.Sums.{bit, differ, sum2, product2, exclusive2}
 use Rattle.algebras.specs.Verdicts.{verdict-by, verdict-of}
-use Rattle.algebras.specs.Counted.{of-changes, counted, said, count-of, stands-for, counted-read, counted-complement, counted-sum, counted-product, counted-exclusive, counted-alike}
+use Rattle.algebras.specs.Counted.{of-changes, counted, said, count-of, is-saturated, stands-for, counted-read, counted-complement, counted-sum, counted-product, counted-exclusive, counted-alike}
 use Rattle.algebras.proofs.Words.{same-transient, complement-end}
 use Rattle.algebras.proofs.Sums.{bit-small, same-bit, flipped-parity, word-counted, moving-sum, sum-single, sum-swap, sum-end, or-false, differ-false, exclusive-end}
 
@@ -535,3 +535,17 @@ sum-worked cap h x y m n a b p q r s i j =
   where
     numbers : {m n a b m′ n′ a′ b′ : ℕ} → m ≡ m′ → n ≡ n′ → a ≡ a′ → b ≡ b′ → (m + n) - (a + b) ≡ ((m′ + n′) - a′) - b′
     numbers p q r s = omega arith
+
+-- A count reaches the cap where the changes do.
+pub reaches-cap : (cap n : ℕ) → not (ltb (min n cap) cap) ≡ leb cap n
+reaches-cap cap n = ⊎-elim below above (cases-lt n cap)
+  where
+    below : n < cap → not (ltb (min n cap) cap) ≡ leb cap n
+    below l = ap not (lt-ltb (min n cap) cap (omega arith)) ∙ sym (lt-leb cap n l)
+
+    above : cap ≤ n → not (ltb (min n cap) cap) ≡ leb cap n
+    above l = ap not (le-ltb (min n cap) cap (omega arith)) ∙ sym (le-leb cap n l)
+
+-- A transient's grade is marked where its changes reach the cap.
+pub grade-marked : (cap : ℕ) (x : CountedGrade) (t : Transient) → x ≡ counted cap t → is-saturated cap x ≡ leb cap (t .changes)
+grade-marked cap x t e = ap (is-saturated cap) e ∙ ap (λ (n : ℕ). not (ltb n cap)) (grade-count cap t) ∙ reaches-cap cap (t .changes)

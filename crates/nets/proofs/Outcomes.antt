@@ -160,24 +160,24 @@ reading-skips long (suc k) at count ws (b ∷ bs) =
 
 -- A record that is refused ends the reading.
 pub reading-ends : (long at count : ℕ) (ws : List Plain) (bytes : List ℕ) (r : Reason) → 0 < length bytes → reason-of ws long bytes ≡ Some r
-  → reading long at 0 count ws bytes ≡ record { wires = ws; answer = Err (at-place r at (length ws) (pin-of r (length ws) (request-of bytes))) }
+    → reading long at 0 count ws bytes ≡ record { wires = ws; answer = Err (at-place r at (length ws) (pin-of r (length ws) (request-of bytes))) }
 reading-ends long at count ws [] r some refused = absurd (omega arith)
 reading-ends long at count ws (b ∷ bs) r some refused =
     ap (λ (o : Option Reason). stopped o
-        (λ r. record { wires = ws; answer = Err (at-place r at (length ws) (pin-of r (length ws) (request-at b bs))) })
-        (reading long (suc at) (body-size b) (suc count) (ws ++ asked (request-at b bs) ∷ []) bs))
+    (λ r. record { wires = ws; answer = Err (at-place r at (length ws) (pin-of r (length ws) (request-at b bs))) })
+    (reading long (suc at) (body-size b) (suc count) (ws ++ asked (request-at b bs) ∷ []) bs))
     refused
 
 -- After a record that is placed, what is left is read.
 pub reading-goes-on : (long at count : ℕ) (ws : List Plain) (bytes : List ℕ) → 0 < length bytes → reason-of ws long bytes ≡ None
-  → reading long at 0 count ws bytes ≡ reading long (at + record-length bytes) 0 (count + 1) (ws ++ asked (request-of bytes) ∷ []) (drop (record-length bytes) bytes)
+    → reading long at 0 count ws bytes ≡ reading long (at + record-length bytes) 0 (count + 1) (ws ++ asked (request-of bytes) ∷ []) (drop (record-length bytes) bytes)
 reading-goes-on long at count ws [] some admitted = absurd (omega arith)
 reading-goes-on long at count ws (b ∷ bs) some admitted =
     let ws′ = ws ++ asked (request-at b bs) ∷ [] in
     let e : suc at + body-size b ≡ at + suc (body-size b) = omega arith in
     ap (λ (o : Option Reason). stopped o
-        (λ r. record { wires = ws; answer = Err (at-place r at (length ws) (pin-of r (length ws) (request-at b bs))) })
-        (reading long (suc at) (body-size b) (suc count) ws′ bs))
+    (λ r. record { wires = ws; answer = Err (at-place r at (length ws) (pin-of r (length ws) (request-at b bs))) })
+    (reading long (suc at) (body-size b) (suc count) ws′ bs))
     admitted
     ∙ reading-skips long (body-size b) (suc at) (suc count) ws′ bs
     ∙ ap (λ (n : ℕ). reading long n 0 (suc count) ws′ (drop (body-size b) bs)) e
@@ -194,16 +194,16 @@ module _ {X G : Type 0} (L : Ghosts X G) (a : X) where
   column-ends ws column [] r some refused = refl
   column-ends ws column (b ∷ bs) r some refused =
       ap (λ (o : Option Reason). stopped o (λ r. column)
-          (column-reading L a (body-size b) (ws ++ asked (request-at b bs) ∷ []) (set column (length ws) (worked L a column (asked (request-at b bs)))) bs))
+      (column-reading L a (body-size b) (ws ++ asked (request-at b bs) ∷ []) (set column (length ws) (worked L a column (asked (request-at b bs)))) bs))
       refused
 
   pub column-goes-on : (ws : List Plain) (column : List G) (bytes : List ℕ) → 0 < length bytes → reason-of ws (length column) bytes ≡ None
-    → column-reading L a 0 ws column bytes
+      → column-reading L a 0 ws column bytes
       ≡ column-reading L a 0 (ws ++ asked (request-of bytes) ∷ []) (set column (length ws) (worked L a column (asked (request-of bytes)))) (drop (record-length bytes) bytes)
   column-goes-on ws column [] some admitted = absurd (omega arith)
   column-goes-on ws column (b ∷ bs) some admitted =
       ap (λ (o : Option Reason). stopped o (λ r. column)
-          (column-reading L a (body-size b) (ws ++ asked (request-at b bs) ∷ []) (set column (length ws) (worked L a column (asked (request-at b bs)))) bs))
+      (column-reading L a (body-size b) (ws ++ asked (request-at b bs) ∷ []) (set column (length ws) (worked L a column (asked (request-at b bs)))) bs))
       admitted
       ∙ column-skips (body-size b) (ws ++ asked (request-at b bs) ∷ []) (set column (length ws) (worked L a column (asked (request-at b bs)))) bs
 
@@ -219,12 +219,12 @@ module _ {X G : Type 0} (L : Ghosts X G) (a : X) (bytes : List ℕ) (at count : 
 
   -- A record is placed, and the reading goes on after it.
   pub turn-placed : (size : ℕ) (ws′ : List Plain) (column′ : List G) → reason-of ws (length column) rest ≡ None → record-length rest ≡ size
-    → ws′ ≡ settled (reason-of ws (length column) rest) (ws ++ asked (request-of rest) ∷ []) ws
-    → column′ ≡ settled (reason-of ws (length column) rest) (set column (length ws) (worked L a column (asked (request-of rest)))) column
-    → (at + size ≤ length bytes) × (1 ≤ size)
-    × (reading (length column′) (at + size) 0 (count + 1) ws′ (drop (at + size) bytes) ≡ result)
-    × (column-reading L a 0 ws′ column′ (drop (at + size) bytes) ≡ entries)
-    × (search-high 0 (length ws′) (drop (at + size) bytes) ≡ high)
+      → ws′ ≡ settled (reason-of ws (length column) rest) (ws ++ asked (request-of rest) ∷ []) ws
+      → column′ ≡ settled (reason-of ws (length column) rest) (set column (length ws) (worked L a column (asked (request-of rest)))) column
+      → (at + size ≤ length bytes) × (1 ≤ size)
+      × (reading (length column′) (at + size) 0 (count + 1) ws′ (drop (at + size) bytes) ≡ result)
+      × (column-reading L a 0 ws′ column′ (drop (at + size) bytes) ≡ entries)
+      × (search-high 0 (length ws′) (drop (at + size) bytes) ≡ high)
   turn-placed size ws′ column′ placed long wires filled =
       let h = rest-length bytes at in
       let whole = placed-whole ws (length column) rest some-rest placed in
@@ -234,44 +234,47 @@ module _ {X G : Type 0} (L : Ghosts X G) (a : X) (bytes : List ℕ) (at count : 
       let bytes-are = sym (rest-drop bytes at size) ∙ ap (λ (n : ℕ). drop n rest) (sym long) in
       let on = reading-goes-on (length column) at count ws rest some-rest placed in
       let column-on = column-goes-on L a ws column rest some-rest placed in
-      let past = search-past ws (length column) rest some-rest placed in
-      (omega arith, omega arith,
-      ap (λ (n : ℕ). reading n (at + size) 0 (count + 1) ws′ (drop (at + size) bytes)) long-is
-      ∙ ap (λ (n : ℕ). reading (length column) n 0 (count + 1) ws′ (drop (at + size) bytes)) (ap (λ (n : ℕ). at + n) (sym long))
-      ∙ ap (λ v. reading (length column) (at + record-length rest) 0 (count + 1) v (drop (at + size) bytes)) ws-is
-      ∙ ap (reading (length column) (at + record-length rest) 0 (count + 1) (ws ++ asked (request-of rest) ∷ [])) bytes-are
-      ∙ sym on ∙ ap (reading (length column) at 0 count ws) (take-rest bytes at) ∙ left,
-      ap (λ v. column-reading L a 0 v column′ (drop (at + size) bytes)) ws-is
-      ∙ ap (λ v. column-reading L a 0 (ws ++ asked (request-of rest) ∷ []) v (drop (at + size) bytes)) column-is
-      ∙ ap (column-reading L a 0 (ws ++ asked (request-of rest) ∷ []) (set column (length ws) (worked L a column (asked (request-of rest))))) bytes-are
-      ∙ sym column-on ∙ ap (column-reading L a 0 ws column) (take-rest bytes at) ∙ left-column,
-      ap (λ (n : ℕ). search-high 0 n (drop (at + size) bytes)) (ap length ws-is ∙ length-push ws (asked (request-of rest)))
-      ∙ ap (search-high 0 (length ws + 1)) bytes-are
-      ∙ sym past ∙ ap (search-high 0 (length ws)) (take-rest bytes at) ∙ search)
+      let past = search-past ws (length column) rest some-rest placed in (
+        omega arith,
+        omega arith,
+        ap (λ (n : ℕ). reading n (at + size) 0 (count + 1) ws′ (drop (at + size) bytes)) long-is
+            ∙ ap (λ (n : ℕ). reading (length column) n 0 (count + 1) ws′ (drop (at + size) bytes)) (ap (λ (n : ℕ). at + n) (sym long))
+            ∙ ap (λ v. reading (length column) (at + record-length rest) 0 (count + 1) v (drop (at + size) bytes)) ws-is
+            ∙ ap (reading (length column) (at + record-length rest) 0 (count + 1) (ws ++ asked (request-of rest) ∷ [])) bytes-are
+            ∙ sym on ∙ ap (reading (length column) at 0 count ws) (take-rest bytes at) ∙ left,
+        ap (λ v. column-reading L a 0 v column′ (drop (at + size) bytes)) ws-is
+            ∙ ap (λ v. column-reading L a 0 (ws ++ asked (request-of rest) ∷ []) v (drop (at + size) bytes)) column-is
+            ∙ ap (column-reading L a 0 (ws ++ asked (request-of rest) ∷ []) (set column (length ws) (worked L a column (asked (request-of rest))))) bytes-are
+            ∙ sym column-on ∙ ap (column-reading L a 0 ws column) (take-rest bytes at) ∙ left-column,
+        ap (λ (n : ℕ). search-high 0 n (drop (at + size) bytes)) (ap length ws-is ∙ length-push ws (asked (request-of rest)))
+            ∙ ap (search-high 0 (length ws + 1)) bytes-are
+            ∙ sym past ∙ ap (search-high 0 (length ws)) (take-rest bytes at) ∙ search,
+      )
 
   -- A record is refused, and the reading ends.
   pub turn-refused : (r : Reason) (ws′ : List Plain) (column′ : List G) (pin : ℕ) → reason-of ws (length column) rest ≡ Some r
-    → ws′ ≡ settled (reason-of ws (length column) rest) (ws ++ asked (request-of rest) ∷ []) ws
-    → column′ ≡ settled (reason-of ws (length column) rest) (set column (length ws) (worked L a column (asked (request-of rest)))) column
-    → pin ≡ cond (eqb (reason-number r) 9) (valueOr high 0) 0
-    → (Err (at-place r at (length ws′) pin) ≡ result .answer) × (ws′ ≡ result .wires) × (column′ ≡ entries)
+      → ws′ ≡ settled (reason-of ws (length column) rest) (ws ++ asked (request-of rest) ∷ []) ws
+      → column′ ≡ settled (reason-of ws (length column) rest) (set column (length ws) (worked L a column (asked (request-of rest)))) column
+      → pin ≡ cond (eqb (reason-number r) 9) (valueOr high 0) 0
+      → (Err (at-place r at (length ws′) pin) ≡ result .answer) × (ws′ ≡ result .wires) × (column′ ≡ entries)
   turn-refused r ws′ column′ pin refused wires filled pin-is =
       let ws-is = wires ∙ sym (settled-refused (reason-of ws (length column) rest) (ws ++ asked (request-of rest) ∷ []) ws r refused) in
       let column-is = filled ∙ sym (settled-refused (reason-of ws (length column) rest) (set column (length ws) (worked L a column (asked (request-of rest)))) column r refused) in
       let ends = sym (reading-ends (length column) at count ws rest r some-rest refused) ∙ ap (reading (length column) at 0 count ws) (take-rest bytes at) ∙ left in
       let column-end = sym (column-ends L a ws column rest r some-rest refused) ∙ ap (column-reading L a 0 ws column) (take-rest bytes at) ∙ left-column in
-      let found = pin-is ∙ pin-found ws (length column) rest r high some-rest refused (sym search ∙ ap (search-high 0 (length ws)) (sym (take-rest bytes at))) in
-      (ap (λ (n : ℕ). Err (at-place r at (length ws′) n)) found
-      ∙ ap (λ v. Err (at-place r at (length v) (pin-of r (length ws) (request-of rest)))) ws-is
-      ∙ ap (λ (o : Outcome). o .answer) ends,
-      ws-is ∙ ap (λ (o : Outcome). o .wires) ends,
-      column-is ∙ column-end)
+      let found = pin-is ∙ pin-found ws (length column) rest r high some-rest refused (sym search ∙ ap (search-high 0 (length ws)) (sym (take-rest bytes at))) in (
+        ap (λ (n : ℕ). Err (at-place r at (length ws′) n)) found
+            ∙ ap (λ v. Err (at-place r at (length v) (pin-of r (length ws) (request-of rest)))) ws-is
+            ∙ ap (λ (o : Outcome). o .answer) ends,
+        ws-is ∙ ap (λ (o : Outcome). o .wires) ends,
+        column-is ∙ column-end,
+      )
 
 -- Nothing is left.
 pub turn-none : (long : ℕ) (bytes : List ℕ) (at count : ℕ) (ws : List Plain) (result : Outcome)
-  → reading long at 0 count ws (drop at bytes) ≡ result → length bytes ≤ at → record { wires = ws; answer = Ok count } ≡ result
+    → reading long at 0 count ws (drop at bytes) ≡ result → length bytes ≤ at → record { wires = ws; answer = Ok count } ≡ result
 turn-none long bytes at count ws result left past = sym (ap (reading long at 0 count ws) (drop-all at bytes past)) ∙ left
 
 pub column-none : {X G : Type 0} (L : Ghosts X G) (a : X) (bytes : List ℕ) (at : ℕ) (ws : List Plain) (column entries : List G)
-  → column-reading L a 0 ws column (drop at bytes) ≡ entries → length bytes ≤ at → column ≡ entries
+    → column-reading L a 0 ws column (drop at bytes) ≡ entries → length bytes ≤ at → column ≡ entries
 column-none L a bytes at ws column entries left past = sym (ap (column-reading L a 0 ws column) (drop-all at bytes past)) ∙ left

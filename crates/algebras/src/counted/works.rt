@@ -2,6 +2,7 @@
 
 ghost use mathlib.Core.Path.{_≡_};
 ghost use Prim.Native.Nat.{_<_, _≤_, min};
+ghost use lib.Dec.{leb};
 ghost use Rattle.algebras.specs.Counted.{of-changes, counted, count-of, is-saturated, stands-for, cap-fault-number};
 ghost use Rattle.algebras.specs.Counted.{counted-read, counted-complement, counted-sum, counted-product, counted-exclusive, counted-alike};
 ghost use Rattle.algebras.specs.Transient.{Transient, end-of};
@@ -56,9 +57,10 @@ impl Counted {
         }
     }
 
-    /// Whether an entry counts the cap.
+    /// Whether an entry counts the cap: of a transient's grade, whether its changes reach it.
     pub fn saturated(&self, x: CountedGrade) -> bool
-        ensures { λ r. ⌜ r ≡ is-saturated (now (self .entry) .«cap») x ⌝ }
+        ensures value { λ r. ⌜ r ≡ is-saturated (now (self .entry) .«cap») x ⌝ }
+        ensures marks { λ r. ⌜ ((t : Transient) → x ≡ counted (now (self .entry) .«cap») t → r ≡ leb (now (self .entry) .«cap») (t .changes)) ⌝ }
     {
         self.count(x) >= self.cap
     }

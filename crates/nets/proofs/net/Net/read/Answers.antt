@@ -20,12 +20,12 @@ use Rattle.nets.proofs.net.Net.read.Needs as need
 
 -- What a record that is placed leaves.
 placed : (g : Over) (c : need.In-Ok g)
-  → (c .loop-at .at + c .in-Ok .size ≤ length (c .args .bytes .now)) × (1 ≤ c .in-Ok .size)
-  × (reading (length (c .place-record .last .column)) (c .loop-at .at + c .in-Ok .size) 0 (c .loop-at .records + 1) (net-wires (c .place-record .last .self))
-      (drop (c .loop-at .at + c .in-Ok .size) (c .args .bytes .now)) ≡ outcome-of-reading (c .args .self .now) (c .args .column .now) (c .args .bytes .now))
-  × (column-reading (g .L·Algebra) (c .args .self .now .algebra) 0 (net-wires (c .place-record .last .self)) (c .place-record .last .column)
-      (drop (c .loop-at .at + c .in-Ok .size) (c .args .bytes .now)) ≡ column-after-reading (g .L·Algebra) (c .args .self .now) (c .args .column .now) (c .args .bytes .now))
-  × (search-high 0 (length (net-wires (c .place-record .last .self))) (drop (c .loop-at .at + c .in-Ok .size) (c .args .bytes .now)) ≡ search-high 0 (c .wires-wires .result) (c .args .bytes .now))
+    → (c .loop-at .at + c .in-Ok .size ≤ length (c .args .bytes .now)) × (1 ≤ c .in-Ok .size)
+    × (reading (length (c .place-record .last .column)) (c .loop-at .at + c .in-Ok .size) 0 (c .loop-at .records + 1) (net-wires (c .place-record .last .self))
+    (drop (c .loop-at .at + c .in-Ok .size) (c .args .bytes .now)) ≡ outcome-of-reading (c .args .self .now) (c .args .column .now) (c .args .bytes .now))
+    × (column-reading (g .L·Algebra) (c .args .self .now .algebra) 0 (net-wires (c .place-record .last .self)) (c .place-record .last .column)
+    (drop (c .loop-at .at + c .in-Ok .size) (c .args .bytes .now)) ≡ column-after-reading (g .L·Algebra) (c .args .self .now) (c .args .column .now) (c .args .bytes .now))
+    × (search-high 0 (length (net-wires (c .place-record .last .self))) (drop (c .loop-at .at + c .in-Ok .size) (c .args .bytes .now)) ≡ search-high 0 (c .wires-wires .result) (c .args .bytes .now))
 placed g c =
     let L = g .L·Algebra in
     let bytes = c .args .bytes .now in
@@ -66,16 +66,16 @@ returns-in-Err g c =
     let r = bad .0 in
     let same = ap (λ (f : ReadFault). f .reason) (bad .2) in
     let ends =
-        turn-refused L (c .args .self .now .algebra) bytes at (c .loop-at .records) ws column _ _ _ (c .loop-at-test .taken) (c .loop-at .inv .3) (c .loop-at .inv .4) (c .loop-at .inv .5)
-        r (net-wires (c .place-record .last .self)) (c .place-record .last .column) (c .high-pin-pin .result) (bad .1) (c .place-record .ensures .net)
-        (c .place-record .ensures .column ∙ ap (λ a. settled (reason-of ws (length column) rest) (set column (length ws) (worked L a column (asked (request-of rest)))) column) (c .loop-at .inv .2))
-        (c .high-pin-pin .ensures ∙ sym (ap (λ (x : Reason). cond (eqb (reason-number x) 9) (valueOr (search-high 0 (c .wires-wires .result) bytes) 0) 0) same)) in
+    turn-refused L (c .args .self .now .algebra) bytes at (c .loop-at .records) ws column _ _ _ (c .loop-at-test .taken) (c .loop-at .inv .3) (c .loop-at .inv .4) (c .loop-at .inv .5)
+    r (net-wires (c .place-record .last .self)) (c .place-record .last .column) (c .high-pin-pin .result) (bad .1) (c .place-record .ensures .net)
+    (c .place-record .ensures .column ∙ ap (λ a. settled (reason-of ws (length column) rest) (set column (length ws) (worked L a column (asked (request-of rest)))) column) (c .loop-at .inv .2))
+    (c .high-pin-pin .ensures ∙ sym (ap (λ (x : Reason). cond (eqb (reason-number x) 9) (valueOr (search-high 0 (c .wires-wires .result) bytes) 0) 0) same)) in
     record {
       answer =
-        ap Err (c .placed .ensures
-        ∙ ap (λ (x : Reason). at-place x at (c .wires .result) (c .high-pin-pin .result)) (sym same)
-        ∙ ap (λ (n : ℕ). at-place r at n (c .high-pin-pin .result)) (c .wires .ensures))
-        ∙ ends .0;
+          ap Err (c .placed .ensures
+          ∙ ap (λ (x : Reason). at-place x at (c .wires .result) (c .high-pin-pin .result)) (sym same)
+          ∙ ap (λ (n : ℕ). at-place r at n (c .high-pin-pin .result)) (c .wires .ensures))
+          ∙ ends .0;
       net = ends .1;
       algebra = c .place-record .ensures .algebra ∙ c .loop-at .inv .2;
       column = ends .2;
