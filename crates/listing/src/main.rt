@@ -2,6 +2,8 @@
 
 mod fault;
 mod list;
+#[cfg(test)]
+mod tests;
 mod text;
 
 use crate::list::MOST;
