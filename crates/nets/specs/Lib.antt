@@ -8,3 +8,4 @@ pub mod Asking
 pub mod Decoding
 pub mod Arrivals
 pub mod Histories
+pub mod Rows
