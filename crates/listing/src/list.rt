@@ -61,7 +61,7 @@ fn records_text(
 {
     let mut net = Net::open(heap, algebra)?;
     net.read(column, records)?;
-    Ok(net_text(heap, &net, column)?)
+    Ok(net_text(heap, &algebra, &net, column)?)
 }
 
 // The text of the net that an input holds.

@@ -12,32 +12,120 @@ struct Case {
 
 const CASES: [Case; 22] = [
     // Caps.
-    Case { input: b"", text: "refused 12 input 0 0 0\n", refused: true },
-    Case { input: b"\x04", text: "refused 12 input 0 0 0\n", refused: true },
-    Case { input: b"\x00\x00", text: "refused 1 algebra 0 0 0\n", refused: true },
-    Case { input: b"\x01\x00\x99", text: "refused 1 algebra 0 0 0\n", refused: true },
-    Case { input: b"\x02\x00", text: "wires 0 cap 2\n", refused: false },
-    Case { input: b"\x04\x00", text: "wires 0 cap 4\n", refused: false },
-    Case { input: b"\xff\xff", text: "wires 0 cap 65535\n", refused: false },
+    Case {
+        input: b"",
+        text: "refused 12 input 0 0 0\n",
+        refused: true,
+    },
+    Case {
+        input: b"\x04",
+        text: "refused 12 input 0 0 0\n",
+        refused: true,
+    },
+    Case {
+        input: b"\x00\x00",
+        text: "refused 1 algebra 0 0 0\n",
+        refused: true,
+    },
+    Case {
+        input: b"\x01\x00\x99",
+        text: "refused 1 algebra 0 0 0\n",
+        refused: true,
+    },
+    Case {
+        input: b"\x02\x00",
+        text: "wires 0 cap 2\n",
+        refused: false,
+    },
+    Case {
+        input: b"\x04\x00",
+        text: "wires 0 cap 4\n",
+        refused: false,
+    },
+    Case {
+        input: b"\xff\xff",
+        text: "wires 0 cap 65535\n",
+        refused: false,
+    },
     // Kind bytes that are no record's.
-    Case { input: b"\x04\x00\x00", text: "refused 11 record 0 0 0\n", refused: true },
-    Case { input: b"\x04\x00\x02", text: "refused 11 record 0 0 0\n", refused: true },
-    Case { input: b"\x04\x00\x01\x00\x01\x92\x00", text: "refused 11 record 3 1 0\n", refused: true },
+    Case {
+        input: b"\x04\x00\x00",
+        text: "refused 11 record 0 0 0\n",
+        refused: true,
+    },
+    Case {
+        input: b"\x04\x00\x02",
+        text: "refused 11 record 0 0 0\n",
+        refused: true,
+    },
+    Case {
+        input: b"\x04\x00\x01\x00\x01\x92\x00",
+        text: "refused 11 record 3 1 0\n",
+        refused: true,
+    },
     // Bodies that are cut.
-    Case { input: b"\x04\x00\x01", text: "refused 12 record 0 0 0\n", refused: true },
-    Case { input: b"\x04\x00\x01\x00", text: "refused 12 record 0 0 0\n", refused: true },
-    Case { input: b"\x04\x00\x01\x00\x01\x21\x00", text: "refused 12 record 3 1 0\n", refused: true },
+    Case {
+        input: b"\x04\x00\x01",
+        text: "refused 12 record 0 0 0\n",
+        refused: true,
+    },
+    Case {
+        input: b"\x04\x00\x01\x00",
+        text: "refused 12 record 0 0 0\n",
+        refused: true,
+    },
+    Case {
+        input: b"\x04\x00\x01\x00\x01\x21\x00",
+        text: "refused 12 record 3 1 0\n",
+        refused: true,
+    },
     // What the net refuses.
-    Case { input: b"\x04\x00\x01\x02\x00", text: "refused 4 net 0 0 0\n", refused: true },
-    Case { input: b"\x04\x00\x01\x00\x01\x31\x00\x00", text: "refused 8 net 3 1 0\n", refused: true },
-    Case { input: b"\x04\x00\x01\x00\x01\x10", text: "refused 8 net 3 1 0\n", refused: true },
-    Case { input: b"\x04\x00\x01\x00\x01\x32\x00\x00\x01\x00", text: "refused 9 net 3 1 1\n", refused: true },
-    Case { input: b"\x04\x00\x01\x00\x01\x21\x00\x00\x33\x00\x00\x05\x00\x02\x00", text: "refused 9 net 6 2 1\n", refused: true },
+    Case {
+        input: b"\x04\x00\x01\x02\x00",
+        text: "refused 4 net 0 0 0\n",
+        refused: true,
+    },
+    Case {
+        input: b"\x04\x00\x01\x00\x01\x31\x00\x00",
+        text: "refused 8 net 3 1 0\n",
+        refused: true,
+    },
+    Case {
+        input: b"\x04\x00\x01\x00\x01\x10",
+        text: "refused 8 net 3 1 0\n",
+        refused: true,
+    },
+    Case {
+        input: b"\x04\x00\x01\x00\x01\x32\x00\x00\x01\x00",
+        text: "refused 9 net 3 1 1\n",
+        refused: true,
+    },
+    Case {
+        input: b"\x04\x00\x01\x00\x01\x21\x00\x00\x33\x00\x00\x05\x00\x02\x00",
+        text: "refused 9 net 6 2 1\n",
+        refused: true,
+    },
     // Wires of each verdict, and counts below, at and above the cap.
-    Case { input: b"\x04\x00\x01\x01\x00", text: "wires 1 cap 4\n0 1 1 0 = 1\n", refused: false },
-    Case { input: b"\x04\x00\x01\x00\x02", text: "wires 1 cap 4\n0 0 0 2 = 2\n", refused: false },
-    Case { input: b"\x04\x00\x01\x01\x04", text: "wires 1 cap 4\n0 1 1 4 + 2\n", refused: false },
-    Case { input: b"\x02\x00\x01\x00\xff", text: "wires 1 cap 2\n0 0 1 2 + 4\n", refused: false },
+    Case {
+        input: b"\x04\x00\x01\x01\x00",
+        text: "wires 1 cap 4\n0 1 1 0 = 1\n",
+        refused: false,
+    },
+    Case {
+        input: b"\x04\x00\x01\x00\x02",
+        text: "wires 1 cap 4\n0 0 0 2 = 2\n",
+        refused: false,
+    },
+    Case {
+        input: b"\x04\x00\x01\x01\x04",
+        text: "wires 1 cap 4\n0 1 1 4 + 2\n",
+        refused: false,
+    },
+    Case {
+        input: b"\x02\x00\x01\x00\xff",
+        text: "wires 1 cap 2\n0 0 1 2 + 4\n",
+        refused: false,
+    },
 ];
 
 #[test]

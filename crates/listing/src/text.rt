@@ -55,13 +55,15 @@ fn mark_of(saturated: bool) -> &'static str
 // The line of a wire.
 fn wire_line(
     heap: Global,
+    algebra: &Counted,
     net: &Net<Counted>,
     column: &[CountedGrade],
     wire: usize,
 ) -> Result<String, AllocError>
+    requires algebra { ⌜ now net .algebra ≡ now algebra ⌝ }
     requires kept { ⌜ Column-kept ghosts (now net) (now column) ⌝ }
     requires stands { ⌜ wire < length (net-wires (now net)) ⌝ }
-    ensures { λ r. ⌜ made r (λ s. string-bytes s ≡ wire-line (now (net .entry) .algebra .«cap») wire (transient (net-wires (now (net .entry))) wire)) ⌝ }
+    ensures { λ r. ⌜ made r (λ s. string-bytes s ≡ wire-line (now (algebra .entry) .«cap») wire (transient (net-wires (now (net .entry))) wire)) ⌝ }
 {
     let Ok(told) = net.tell(column, wire) else {
         return unreachable();
@@ -69,7 +71,6 @@ fn wire_line(
     let Ok(grade) = net.look_up(column, wire) else {
         return unreachable();
     };
-    let algebra = net.algebra();
     let start = told.start as u8;
     let end = told.end as u8;
     let count = algebra.count(grade);
@@ -81,17 +82,19 @@ fn wire_line(
 // The header and the lines of all wires.
 pub(crate) fn net_text(
     heap: Global,
+    algebra: &Counted,
     net: &Net<Counted>,
     column: &[CountedGrade],
 ) -> Result<String, AllocError>
-    requires { ⌜ Column-kept ghosts (now net) (now column) ⌝ }
-    ensures { λ r. ⌜ made r (λ s. string-bytes s ≡ net-text (now (net .entry) .algebra .«cap») (net-wires (now (net .entry)))) ⌝ }
+    requires algebra { ⌜ now net .algebra ≡ now algebra ⌝ }
+    requires kept { ⌜ Column-kept ghosts (now net) (now column) ⌝ }
+    ensures { λ r. ⌜ made r (λ s. string-bytes s ≡ net-text (now (algebra .entry) .«cap») (net-wires (now (net .entry)))) ⌝ }
 {
     let wires = net.wires();
-    let cap = net.algebra().cap();
+    let cap = algebra.cap();
     let mut text = format!(heap, "wires {wires} cap {cap}\n")?;
     for wire in 0..wires {
-        let line = wire_line(heap, net, column, wire)?;
+        let line = wire_line(heap, algebra, net, column, wire)?;
         text.push_str(line.as_str())?;
     }
     Ok(text)

@@ -34,13 +34,6 @@ impl<L: Algebra + Drop> Net<L> {
 }
 
 impl<L: Algebra> Net<L> {
-    /// The algebra that the net is worked under.
-    pub fn algebra(&self) -> &L
-        ensures { λ r. ⌜ now r ≡ now (self .entry) .algebra ⌝ }
-    {
-        &self.algebra
-    }
-
     /// How many wires stand.
     pub fn wires(&self) -> usize
         ensures { λ r. ⌜ r ≡ length (net-wires (now (self .entry))) ⌝ }

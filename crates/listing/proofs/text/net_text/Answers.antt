@@ -15,7 +15,7 @@ loop-wire-again c =
     let n = c .args .net .now in
     let ts = transients (net-wires n) in
     let long = length-transients (net-wires n) in
-    lines-more (n .algebra .«cap») (c .loop-wire .wire) ts (string-bytes (c .loop-wire .text)) (string-bytes (c .push-str .last .self)) (string-bytes (c .in-Continue-line .line)) _
+    lines-more (c .args .algebra .now .«cap») (c .loop-wire .wire) ts (string-bytes (c .loop-wire .text)) (string-bytes (c .push-str .last .self)) (string-bytes (c .in-Continue-line .line)) _
     (omega (arith, c .wires-wires .ensures)) (c .in-Continue-line .ensures tt)
     (c .in-Continue-push-str .ensures tt .bytes ∙ ap (λ x. string-bytes (c .loop-wire .text) ++ x) (c .as-str .ensures .value))
     (c .loop-wire .inv)
@@ -24,4 +24,4 @@ pub returns : need.returns
 returns c =
     let n = c .args .net .now in
     let long = length-transients (net-wires n) in
-    lines-all (n .algebra .«cap») (c .loop-wire .wire) (transients (net-wires n)) (string-bytes (c .loop-wire .text)) _ (omega (arith, c .wires-wires .ensures)) (c .loop-wire .inv)
+    lines-all (c .args .algebra .now .«cap») (c .loop-wire .wire) (transients (net-wires n)) (string-bytes (c .loop-wire .text)) _ (omega (arith, c .wires-wires .ensures)) (c .loop-wire .inv)

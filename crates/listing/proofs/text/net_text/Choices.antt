@@ -9,4 +9,4 @@ use Rattle.listing.proofs.text.net_text.Given as given
 
 abbrev pub Inv-loop-wire : given.InvT-loop-wire
 Inv-loop-wire l =
-    string-bytes (l .text) ++ wire-lines (l .net .algebra .«cap») (l .wire) (drop (l .wire) (transients (net-wires (l .net)))) ≡ net-text (l .net .algebra .«cap») (net-wires (l .net))
+    string-bytes (l .text) ++ wire-lines (l .algebra .«cap») (l .wire) (drop (l .wire) (transients (net-wires (l .net)))) ≡ net-text (l .algebra .«cap») (net-wires (l .net))
