@@ -18,27 +18,27 @@ const SUMS: [u8; 25] = [
     1,
     2,
     3,
-    4, // 0
+    4, // sums with 0
     1,
     1,
     1,
     1,
-    1, // 1
+    1, // sums with 1
     2,
     1,
     2,
     4,
-    4, // 0/1
+    4, // sums with 0/1
     3,
     1,
     4,
     3,
-    4, // 1/0
+    4, // sums with 1/0
     4,
     1,
     4,
     4,
-    4, // ½
+    4, // sums with ½
 ];
 
 // The product, at the same place.
@@ -47,27 +47,27 @@ const PRODUCTS: [u8; 25] = [
     0,
     0,
     0,
-    0, // 0
+    0, // products with 0
     0,
     1,
     2,
     3,
-    4, // 1
+    4, // products with 1
     0,
     2,
     2,
     4,
-    4, // 0/1
+    4, // products with 0/1
     0,
     3,
     4,
     3,
-    4, // 1/0
+    4, // products with 1/0
     0,
     4,
     4,
     4,
-    4, // ½
+    4, // products with ½
 ];
 
 // The exclusive sum, at the same place.
@@ -76,27 +76,27 @@ const EXCLUSIVE_SUMS: [u8; 25] = [
     1,
     2,
     3,
-    4, // 0
+    4, // exclusive sums with 0
     1,
     0,
     3,
     2,
-    4, // 1
+    4, // exclusive sums with 1
     2,
     3,
     4,
     4,
-    4, // 0/1
+    4, // exclusive sums with 0/1
     3,
     2,
     4,
     4,
-    4, // 1/0
+    4, // exclusive sums with 1/0
     4,
     4,
     4,
     4,
-    4, // ½
+    4, // exclusive sums with ½
 ];
 
 impl Symbol {
