@@ -22,7 +22,7 @@ pub struct Standing {
 
 impl Standing {
     /// A net of so many inputs, and a column of so many entries, at most 513, where those above the inputs are as no input's.
-    pub fn new(heap: Global, inputs: usize, long: usize) -> Result<Standing, Fail> {
+    pub(crate) fn new(heap: Global, inputs: usize, long: usize) -> Result<Standing, Fail> {
         let counted = Counted::new(1000)?;
         let mut column = vec![in heap; counted.drive(true, 7); 513]?;
         let mut net = Net::open(heap, counted)?;
@@ -35,7 +35,7 @@ impl Standing {
 }
 
 /// Checks that two columns have the same entries, but for those of some wires.
-pub fn check_entries(
+pub(crate) fn check_entries(
     before: &[CountedGrade],
     after: &[CountedGrade],
     but: Range<usize>,
