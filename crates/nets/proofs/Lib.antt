@@ -5,6 +5,8 @@ pub mod Grading
 pub mod Decodings
 pub mod Readings
 pub mod Outcomes
+pub mod Writings
+pub mod Rereading
 pub mod Wiring
 pub mod Heard
 pub mod Bounds

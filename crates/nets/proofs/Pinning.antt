@@ -70,12 +70,12 @@ allowed Xnor n e = several-allowed n e
 -- The checks of a gate, for the kind that its number gives.
 pub gate-passes : (o : Option Kind) (k : Kind) (w : ℕ) (ps qs : List ℕ) → o ≡ Some k → pins-allowed k (length ps) ≡ true → or-of (map (leb w) ps) ≡ false → qs ≡ ps
     → (cond (not (isSome o)) (Some BadKind) (cond (not (count-allowed o (length ps))) (Some BadPinCount) (cond (or-of (map (leb w) ps)) (Some HighPin) None)) ≡ None)
-    × (gate k qs ≡ gate (valueOr o Buffer) ps) × Within w (gate k qs)
+    × (gate k qs ≡ gate (valueOr o Buffer) ps) × Within w (gate k qs) × (pins-allowed k (length qs) ≡ true)
 gate-passes o k w ps qs kind-is few low pins-are =
     let a = ap isSome kind-is in
     let b = ap (λ p. count-allowed p (length ps)) kind-is ∙ few in
     let v = ap (λ p. valueOr p Buffer) kind-is in
-    (passes a b low, (cc), (rw pins-are (allowed k (length ps) few .0), rw pins-are (none-high w ps low)))
+    (passes a b low, (cc), (rw pins-are (allowed k (length ps) few .0), rw pins-are (none-high w ps low)), rw pins-are few)
   where
     passes : {x y z : Bool} → x ≡ true → y ≡ true → z ≡ false → cond (not x) (Some BadKind) (cond (not y) (Some BadPinCount) (cond z (Some HighPin) None)) ≡ None
     passes {x} {y} {z} p q r = rw (p, q, r)

@@ -1,6 +1,6 @@
 -- The transients of a plain net, wire by wire, and the starts of its wires.
 use mathlib.Core.Path.{_≡_, refl, sym, ap, subst, _∙_}
-use mathlib.Core.Bool.{Bool, false}
+use mathlib.Core.Bool.{Bool, true, false}
 use mathlib.Core.Logic.{inl, inr}
 use mathlib.Core.List.{List, [], _∷_, _++_, map}
 use Prim.Native.Nat.{ℕ, zero, suc, _+_, _≤_, _<_}
@@ -13,7 +13,7 @@ use Rattle.algebras.specs.Kinds.{gate-function, gate-transient}
 use Rattle.algebras.specs.Sums.{starts, or-of}
 use Rattle.algebras.specs.Transient.{Transient, zero-word}
 use Rattle.algebras.proofs.EveryKind.{gate-start}
-use Rattle.nets.specs.Wires.{Plain, input, gate, transient-after, transients-after, transients, transient, wire-at, pins-of, Lower}
+use Rattle.nets.specs.Wires.{Plain, input, gate, transient-after, transients-after, transients, transient, wire-at, pins-of, Lower, fits, Fitting}
 use Rattle.nets.specs.Arrivals.{function-of, starts-after, start-of}
 
 -- Wires worked after others.
@@ -133,6 +133,19 @@ start-of-transient net w =
 -- In a net without wires pins name lower wires.
 pub lower-none : Lower []
 lower-none w i l = absurd (omega arith)
+
+-- A net stays one whose gates have as many pins as their kinds allow where one wire more does.
+pub fitting-push : (net : List Plain) (p : Plain) → Fitting net → fits p ≡ true → Fitting (net ++ p ∷ [])
+fitting-push net p fitting ok w =
+    elim (cases-lt w (length net)) [
+      | inl m ↦ ap fits (getD-append-left net (p ∷ []) (input false 0) w m) ∙ fitting w
+      | inr m ↦ elim (cases-eq (length net) w) [
+        | inl e ↦ ap fits (getD-push net p (input false 0) w e) ∙ ok
+        | inr d ↦
+            let n = length-push net p in
+            ap fits (getD-past (net ++ p ∷ []) w (input false 0) (omega arith))
+      ]
+    ]
 
 -- A net stays one whose pins name lower wires where the pins of one wire more name standing wires.
 pub lower-push : (net : List Plain) (p : Plain) → Lower net → ((i : ℕ) → i < length (pins-of p) → getD (pins-of p) i 0 < length net)

@@ -7,7 +7,7 @@ use Rattle.std.specs.declared.option.Option.the-variants.{Some, None}
 use Rattle.std.specs.declared.result.Result.{Result}
 use Rattle.std.specs.declared.result.Result.the-variants.{Ok, Err}
 use Rattle.nets.specs.declared.fault.NetFault.{NetFault}
-use Rattle.nets.specs.declared.fault.NetFault.the-variants.{NoSuchWire, BadStart, Full, ShortColumn, BadKind, BadPinCount, HighPin}
+use Rattle.nets.specs.declared.fault.NetFault.the-variants.{NoSuchWire, BadStart, Full, ShortColumn, BadKind, BadPinCount, HighPin, ShortBuffer}
 
 abbrev pub net-fault-number : NetFault → ℕ
 net-fault-number NoSuchWire = 2
@@ -17,6 +17,7 @@ net-fault-number ShortColumn = 6
 net-fault-number BadKind = 7
 net-fault-number BadPinCount = 8
 net-fault-number HighPin = 9
+net-fault-number ShortBuffer = 14
 
 -- A check: whether it refuses, and with which fault.
 pub record Check : Type 0 where

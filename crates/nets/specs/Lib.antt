@@ -4,6 +4,7 @@ pub mod Working
 pub mod Placing
 pub mod Records
 pub mod Nets
+pub mod Writing
 pub mod Asking
 pub mod Decoding
 pub mod Arrivals

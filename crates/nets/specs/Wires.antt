@@ -1,10 +1,11 @@
 -- The plain net: a list of inputs with drives and gates with kind and pins, and the transient of each wire.
-use mathlib.Core.Bool.{Bool, false}
+use mathlib.Core.Path.{_≡_}
+use mathlib.Core.Bool.{Bool, true, false}
 use mathlib.Core.List.{List, [], _∷_, _++_, map}
 use Prim.Native.Nat.{ℕ, _<_}
 use lib.ListN.{length, getD, take}
 use Rattle.algebras.specs.declared.kind.Kind.{Kind}
-use Rattle.algebras.specs.Kinds.{gate-transient}
+use Rattle.algebras.specs.Kinds.{gate-transient, pins-allowed}
 use Rattle.algebras.specs.Transient.{Transient, driven, zero-word}
 use Rattle.nets.specs.declared.wire.Wire.{Wire}
 use Rattle.nets.specs.declared.wire.Wire.the-variants.{Input, Output}
@@ -47,6 +48,15 @@ pins-of (gate k ps) = ps
 -- Pins name lower wires: there is no feedback.
 abbrev pub Lower : List Plain → Type 0
 Lower net = (w k : ℕ) → k < length (pins-of (wire-at net w)) → getD (pins-of (wire-at net w)) k 0 < w
+
+-- Whether a wire, if it is a gate, has as many pins as its kind allows.
+abbrev pub fits : Plain → Bool
+fits (input b n) = true
+fits (gate k ps) = pins-allowed k (length ps)
+
+-- Every gate has as many pins as its kind allows.
+abbrev pub Fitting : List Plain → Type 0
+Fitting net = (w : ℕ) → fits (wire-at net w) ≡ true
 
 -- The transient of a wire, after those of the wires before it.
 abbrev pub transient-after : List Transient → Plain → Transient

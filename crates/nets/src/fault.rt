@@ -22,6 +22,8 @@ pub enum NetFault {
     BadPinCount = 8,
     /// A pin names the gate's own wire or a higher number.
     HighPin = 9,
+    /// The buffer is shorter than the records.
+    ShortBuffer = 14,
 }
 
 impl NetFault {

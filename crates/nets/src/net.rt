@@ -2,7 +2,7 @@
 
 ghost use Prim.Native.Nat.{_≤_};
 ghost use mathlib.Core.List.{map};
-ghost use Rattle.nets.specs.Wires.{Lower, plain};
+ghost use Rattle.nets.specs.Wires.{Fitting, Lower, plain};
 ghost use Rattle.std.specs.Of.Vec.{vec-cap, vec-items, vec-len};
 use crate::wire::Wire;
 use algebras::algebra::Algebra;
@@ -11,6 +11,7 @@ pub mod ask;
 pub mod place;
 pub mod read;
 pub(crate) mod work;
+pub mod write;
 
 /// The wires of a net, of which there are at most 512, in the order of placing.
 #[derive(Drop)]
@@ -26,4 +27,5 @@ pub struct Net<L: Algebra> {
     algebra: L,
     table: Table,
     ghost lower: { Lower (map plain (vec-items (table .wires))) },
+    ghost fitting: { Fitting (map plain (vec-items (table .wires))) },
 }

@@ -1,13 +1,14 @@
 //! Opening a net, and placing wires.
 
 ghost use mathlib.Core.Path.{_≡_};
+ghost use mathlib.Core.Bool.{true};
 ghost use mathlib.Core.List.{[], _∷_, _++_};
 ghost use Prim.Native.Nat.{_<_};
 ghost use lib.ListN.{length, set};
 ghost use Rattle.nets.specs.Faults.{first-fault, unless};
 ghost use Rattle.nets.specs.Nets.{Column-kept, answer-of-placing, column-after-placing, net-wires, wires-after-placing};
 ghost use Rattle.nets.specs.Placing.{ask-gate, ask-input, room-checks};
-ghost use Rattle.nets.specs.Wires.{Within, plain};
+ghost use Rattle.nets.specs.Wires.{Within, fits, plain};
 ghost use Rattle.nets.specs.Working.{worked};
 ghost use Rattle.std.specs.Vec.{made};
 use crate::fault::NetFault;
@@ -101,6 +102,7 @@ impl<L: Algebra> Net<L> {
         requires few { ⌜ length (net-wires (now self)) < 512 ⌝ }
         requires long { ⌜ length (net-wires (now self)) < length (now column) ⌝ }
         requires lower { ⌜ Within (length (net-wires (now self))) (plain wire) ⌝ }
+        requires fitting { ⌜ fits (plain wire) ≡ true ⌝ }
         ensures net { λ _. ⌜ net-wires (now (self .exit)) ≡ net-wires (now (self .entry)) ++ plain wire ∷ [] ⌝ }
         ensures algebra { λ _. ⌜ now (self .exit) .algebra ≡ now (self .entry) .algebra ⌝ }
         ensures column { λ _. ⌜ now (column .exit) ≡ set (now (column .entry)) (length (net-wires (now (self .entry)))) (worked L·Algebra (now (self .entry) .algebra) (now (column .entry)) (plain wire)) ⌝ }

@@ -1,6 +1,7 @@
 //! Making gates and their pins.
 
 ghost use mathlib.Core.Path.{_≡_};
+ghost use mathlib.Core.Bool.{true};
 ghost use mathlib.Core.List.{map};
 ghost use Prim.Native.Nat.{_≤_};
 ghost use lib.Dec.{leb};
@@ -8,7 +9,7 @@ ghost use lib.ListN.{length};
 ghost use Rattle.algebras.specs.Sums.{or-of};
 ghost use Rattle.nets.specs.Faults.{first-fault};
 ghost use Rattle.nets.specs.Placing.{ask-gate, asked, request-checks};
-ghost use Rattle.nets.specs.Wires.{Within, pin-list, plain};
+ghost use Rattle.nets.specs.Wires.{Within, fits, pin-list, plain};
 ghost use Rattle.nets.specs.declared.wire.Wire.the-variants.{Output};
 ghost use Rattle.std.specs.declared.option.Option.the-variants.{None, Some};
 ghost use Rattle.std.specs.Results.{Cases};
@@ -52,7 +53,7 @@ fn names_high(pins: &[u16], wire: usize) -> bool
 impl Gate {
     // The gate of that kind and these pins as wire number `wire`, or why there is none.
     pub(crate) fn asked(kind: u8, pins: &[u16], wire: usize) -> Result<Gate, NetFault>
-        ensures { λ r. ⌜ Cases r (λ g. (first-fault (request-checks wire (ask-gate kind (now (pins .entry)))) ≡ None) × (plain (Output g) ≡ asked (ask-gate kind (now (pins .entry)))) × Within wire (plain (Output g))) (λ f. first-fault (request-checks wire (ask-gate kind (now (pins .entry)))) ≡ Some f) ⌝ }
+        ensures { λ r. ⌜ Cases r (λ g. (first-fault (request-checks wire (ask-gate kind (now (pins .entry)))) ≡ None) × (plain (Output g) ≡ asked (ask-gate kind (now (pins .entry)))) × Within wire (plain (Output g)) × (fits (plain (Output g)) ≡ true)) (λ f. first-fault (request-checks wire (ask-gate kind (now (pins .entry)))) ≡ Some f) ⌝ }
     {
         let Some(kind) = Kind::from_number(kind) else {
             return Err(NetFault::BadKind);

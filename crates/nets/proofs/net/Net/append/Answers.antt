@@ -3,12 +3,12 @@ use native.Mathlib.Omega.{arith}
 use lib.ListN.{length, set}
 use Rattle.std.proofs.shelf.Lists.{length-map}
 use Rattle.std.specs.Of.Vec.{vec-len, vec-cap, vec-items}
-use Rattle.nets.specs.Wires.{plain, Lower}
+use Rattle.nets.specs.Wires.{plain, Lower, Fitting}
 use Rattle.nets.specs.Nets.{net-wires}
 use Rattle.nets.specs.Working.{Kept}
 use Rattle.nets.proofs.Grading.{Lawful, kept-push}
 use Rattle.nets.proofs.Placements.{within-below, wires-push}
-use Rattle.nets.proofs.Wiring.{lower-push}
+use Rattle.nets.proofs.Wiring.{lower-push, fitting-push}
 use Rattle.nets.proofs.net.Net.append.Needs as need
 
 pub push-reserved-requires : need.push-reserved-requires
@@ -23,7 +23,7 @@ ghost-self g c =
     let n = v .ok .0 ∙ sym (length-map (vec-items v) plain) in
     let items = wires-push (vec-items v) (vec-items (c .push-reserved .last .self)) (c .args .wire) (c .push-reserved .ensures .items) in (
       (omega (arith, c .push-reserved .ensures .len, c .pre .few), (omega (arith, c .push-reserved .ensures .capacity, c .args .self .now .table .room), tt)),
-      (subst Lower (sym items) (lower-push (net-wires (c .args .self .now)) (plain (c .args .wire)) (c .args .self .now .lower) (within-below _ _ (c .pre .lower))), tt),
+      (subst Lower (sym items) (lower-push (net-wires (c .args .self .now)) (plain (c .args .wire)) (c .args .self .now .lower) (within-below _ _ (c .pre .lower))), (subst Fitting (sym items) (fitting-push (net-wires (c .args .self .now)) (plain (c .args .wire)) (c .args .self .now .fitting) (c .pre .fitting)), tt)),
     )
 
 pub returns : need.returns

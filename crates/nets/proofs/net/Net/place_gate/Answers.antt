@@ -29,7 +29,7 @@ pub append-requires : need.append-requires
 append-requires g c κs =
     let room = unless-ok _ _ _ (sym (c .in-Continue-number .ensures tt)) in
     let r = room-is _ _ (room .0) in
-    record { few = r .0; long = r .1; lower = rw (room .1) (c .in-Continue-gate .ensures tt .2) }
+    record { few = r .0; long = r .1; lower = rw (room .1) (c .in-Continue-gate .ensures tt .2); fitting = c .in-Continue-gate .ensures tt .3 }
 
 pub returns : need.returns
 returns g c =
