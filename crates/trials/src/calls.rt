@@ -3,14 +3,12 @@
 use self::Call::Gate;
 use self::Call::Input;
 use crate::standing::Standing;
-use crate::standing::check_entries;
+use crate::standing::same_entries;
 use algebras::counted::Counted;
 use algebras::counted::grade::CapFaultDebug;
 use algebras::counted::works::CountedAlgebra;
 use algebras::counted::works::CountedTelling;
 use nets::fault::NetFault;
-use nets::fault::NetFaultDebug;
-use nets::fault::NetFaultPartialEq;
 use std::test::*;
 
 // A call that places a wire: an input with a start and changes, or a gate with a kind and pins.
@@ -93,15 +91,20 @@ fn try_placing(standing: Standing, inputs: usize, call: Call, number: u8) -> Res
         Input(start, changes) => net.place_input(&mut column, start, changes),
         Gate(kind, pins) => net.place_gate(&mut column, kind, pins),
     };
+    let (answered, wire) = match answer {
+        Ok(wire) => (0, wire),
+        Err(fault) => (fault.number(), inputs),
+    };
     let wires = if number == 0 {
-        check_eq(answer, Ok(inputs))?;
         inputs.saturating_add(1)
     } else {
-        check_eq(refusal(answer), number)?;
         inputs
     };
-    check_eq(net.wires(), wires)?;
-    check_entries(&before, &column, inputs..wires)
+    let same = same_entries(&before, &column, inputs..wires);
+    check_eq(
+        (answered, wire, net.wires(), same),
+        (number, inputs, wires, true),
+    )
 }
 
 #[test]
@@ -116,26 +119,22 @@ fn placing(rt: LibcRuntime) -> Result<(), Fail> {
 #[test]
 fn asking(rt: LibcRuntime) -> Result<(), Fail> {
     for (inputs, long, wire, number) in ASKING {
-        let standing = Standing::new(rt.alloc(), inputs, long)?;
-        check_eq(
-            refusal(standing.net.look_up(&standing.column, wire)),
-            number,
-        )?;
-        check_eq(refusal(standing.net.tell(&standing.column, wire)), number)?;
+        let Standing { net, column } = Standing::new(rt.alloc(), inputs, long)?;
+        let looked_up = refusal(net.look_up(&column, wire));
+        let told = refusal(net.tell(&column, wire));
+        check_eq((looked_up, told), (number, number))?;
     }
     Ok(())
 }
 
 #[test]
 fn caps() -> Result<(), Fail> {
-    for cap in [0, 1] {
-        match Counted::new(cap) {
-            Ok(_) => return Err(Fail::new("a cap too small is taken")),
-            Err(fault) => check_eq(fault.number(), 1)?,
-        }
-    }
-    for cap in [2, 3, 65535] {
-        check_eq(Counted::new(cap)?.cap(), cap)?;
+    for (cap, number) in [(0, 1), (1, 1), (2, 0), (65535, 0)] {
+        let answered = match Counted::new(cap) {
+            Ok(counted) => (0, counted.cap()),
+            Err(fault) => (fault.number(), cap),
+        };
+        check_eq(answered, (number, cap))?;
     }
     Ok(())
 }

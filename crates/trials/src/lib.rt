@@ -13,4 +13,4 @@ mod simulator;
 #[cfg(test)]
 mod standing;
 #[cfg(test)]
-mod sums;
+mod worked;

@@ -1,7 +1,7 @@
 //! Records that are read, and records that are refused at their place.
 
 use crate::standing::Standing;
-use crate::standing::check_entries;
+use crate::standing::same_entries;
 use algebras::counted::works::CountedAlgebra;
 use nets::fault::Layer;
 use nets::fault::LayerDebug;
@@ -14,37 +14,18 @@ use std::test::*;
 type Refusal = (u8, usize, usize, usize);
 
 // Net A: an input, an inverter, and an AND, an OR, a NAND and an XOR gate of two pins each.
-const NET_A: [u8; 26] = [
-    0x01,
-    0,
-    1,
-    0x21,
-    0,
-    0,
-    0x32,
-    0,
-    0,
-    1,
-    0,
-    0x42,
-    0,
-    0,
-    2,
-    0,
-    0x62,
-    1,
-    0,
-    2,
-    0,
-    0x52,
-    3,
-    0,
-    4,
-    0,
-];
+const NET_A: &[u8] =
+    b"\x01\0\x01\x21\0\0\x32\0\0\x01\0\x42\0\0\x02\0\x62\x01\0\x02\0\x52\x03\0\x04\0";
 
-// Where its records begin, and where the last one ends.
-const PLACES: [usize; 7] = [0, 3, 6, 11, 16, 21, 26];
+// The wires of its records, and where each begins and ends.
+const RECORDS_OF_A: [(usize, usize, usize); 6] = [
+    (0, 0, 3),
+    (1, 3, 6),
+    (2, 6, 11),
+    (3, 11, 16),
+    (4, 16, 21),
+    (5, 21, 26),
+];
 
 // Inputs that stand, entries of the column, bytes that are read, and how many records they are.
 const READ: [(usize, usize, &[u8], usize); 6] = [
@@ -72,7 +53,7 @@ const REFUSED: [(usize, usize, &[u8], Refusal); 29] = [
     (
         2,
         9,
-        &[0x39, 0, 0, 0, 0, 0, 0, 0, 0, 0, 0, 0, 0, 0, 0, 0, 0, 0, 0],
+        b"\x39\0\0\0\0\0\0\0\0\0\0\0\0\0\0\0\0\0\0",
         (8, 0, 2, 0),
     ),
     // A pin that names its own wire or a higher one; the first is named.
@@ -124,10 +105,10 @@ fn try_read(
         mut column,
     } = Standing::new(heap, inputs, long)?;
     let before = column.clone()?;
-    check_eq(net.read(&mut column, bytes)?, records)?;
+    let read = net.read(&mut column, bytes)?;
     let wires = inputs.saturating_add(records);
-    check_eq(net.wires(), wires)?;
-    check_entries(&before, &column, inputs..wires)
+    let same = same_entries(&before, &column, inputs..wires);
+    check_eq((read, net.wires(), same), (records, wires, true))
 }
 
 // Reads bytes that are refused, and checks the refusal, and that the records before the refused one stay as they are read alone.
@@ -145,41 +126,36 @@ fn try_refused(
     let Err(fault) = net.read(&mut column, bytes) else {
         return Err(Fail::new("all records are read"));
     };
-    check_eq(
-        (fault.number(), fault.offset, fault.wire, fault.pin),
-        refusal,
-    )?;
-    let layer = if fault.number() > 10 {
-        Layer::Record
-    } else {
-        Layer::Net
-    };
-    check_eq(fault.layer(), layer)?;
     let Standing {
         net: mut other,
         column: mut entries,
     } = Standing::new(heap, inputs, long)?;
-    other.read(
-        &mut entries,
-        bytes.get(0..fault.offset).ok_or("an offset past the end")?,
+    let before = bytes.get(0..fault.offset).ok_or("no such offset")?;
+    other.read(&mut entries, before)?;
+    let same = same_entries(&entries, &column, 0..0);
+    check_eq(
+        (fault.number(), fault.offset, fault.wire, fault.pin),
+        refusal,
     )?;
-    check_eq((net.wires(), other.wires()), (fault.wire, fault.wire))?;
-    check_entries(&column, &entries, 0..0)
+    check_eq(
+        (fault.layer(), net.wires(), other.wires(), same),
+        (layer(fault.number()), fault.wire, fault.wire, true),
+    )
+}
+
+// The layer of a refusal with this number.
+fn layer(number: u8) -> Layer {
+    if number > 10 {
+        Layer::Record
+    } else {
+        Layer::Net
+    }
 }
 
 #[test]
 fn whole_records(rt: LibcRuntime) -> Result<(), Fail> {
     for (inputs, long, bytes, records) in READ {
         try_read(rt.alloc(), inputs, long, bytes, records)?;
-    }
-    for (records, end) in PLACES.iter().enumerate() {
-        try_read(
-            rt.alloc(),
-            0,
-            6,
-            NET_A.get(0..*end).ok_or("no such place")?,
-            records,
-        )?;
     }
     Ok(())
 }
@@ -199,25 +175,27 @@ fn kind_bytes(rt: LibcRuntime) -> Result<(), Fail> {
         let number = match kind {
             0x01 => 12,
             0x00..=0x0f | 0x90..=0xff => 11,
-            _ => if kind % 16 == 0 { 8 } else { 12 },
+            _ => { if kind % 16 == 0 { 8 } else { 12 } }
         };
-        try_refused(rt.alloc(), 2, 9, &[kind], (number, 0, 2, 0)).note(kind)?;
+        try_refused(rt.alloc(), 2, 9, &[kind], (number, 0, 2, 0))?;
     }
     Ok(())
 }
 
-// Net A cut at every length that is not the end of a record.
+// Net A cut at every length: before a record all is read, and within it the record is refused.
 #[test]
 fn cut_records(rt: LibcRuntime) -> Result<(), Fail> {
-    for (wire, (start, end)) in PLACES.iter().zip(PLACES.iter().skip(1)).enumerate() {
-        for cut in *start..*end {
-            if cut > *start {
-                let bytes = NET_A.get(0..cut).ok_or("no such place")?;
-                try_refused(rt.alloc(), 0, 6, bytes, (12, *start, wire, 0)).note(cut)?;
+    for (wire, start, end) in RECORDS_OF_A {
+        for cut in start..end {
+            let bytes = NET_A.get(0..cut).ok_or("no such length")?;
+            if cut == start {
+                try_read(rt.alloc(), 0, 6, bytes, wire)?;
+            } else {
+                try_refused(rt.alloc(), 0, 6, bytes, (12, start, wire, 0))?;
             }
         }
     }
-    Ok(())
+    try_read(rt.alloc(), 0, 6, NET_A, 6)
 }
 
 #[test]
