@@ -14,3 +14,5 @@ mod simulator;
 mod standing;
 #[cfg(test)]
 mod worked;
+#[cfg(test)]
+mod writing;
