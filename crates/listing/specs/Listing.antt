@@ -97,22 +97,25 @@ read-in input = reading 512 0 0 0 [] (drop 2 input)
 abbrev pub early-refusal : List ℕ → Option ListFault
 early-refusal input = cond (ltb 16384 (length input)) (Some TooLong) (cond (ltb (length input) 2) (Some NoCap) (cond (ltb (cap-in input) 2) (Some (Cap TooSmall)) None))
 
+-- Why a record is refused, if one is.
 abbrev pub late-refusal : Result ℕ ReadFault → Option ListFault
 late-refusal (Ok n) = None
 late-refusal (Err f) = Some (Read f)
 
--- Why a listing is refused, if it is.
+-- An early refusal, or else a late one.
 abbrev pub or-late : Option ListFault → Option ListFault → Option ListFault
 or-late None y = y
 or-late (Some x) y = Some x
 
+-- Why a listing is refused, if it is.
 abbrev pub list-refusal : List ℕ → Option ListFault
 list-refusal input = or-late (early-refusal input) (late-refusal (read-in input .answer))
 
--- The whole text.
+-- The line of a refusal, or a text where there is none.
 abbrev pub told : Option ListFault → List ℕ → List ℕ
 told None text = text
 told (Some f) text = refused-text f
 
+-- The whole text that is printed for an input.
 abbrev pub listing-text : List ℕ → List ℕ
 listing-text input = told (list-refusal input) (net-text (cap-in input) (read-in input .wires))

@@ -70,15 +70,17 @@ request-at b bs = request-in b (take (body-size b) bs)
 abbrev pub misread : ℕ → List ℕ → Option Reason
 misread b bs = cond (not (known b)) (Some UnknownKind) (cond (ltb (length bs) (body-size b)) (Some CutShort) None)
 
--- Why a record is not placed: it cannot be read, or the net refuses it.
+-- The net's refusal, carried as a reason.
 abbrev pub carried : Option NetFault → Option Reason
 carried None = None
 carried (Some f) = Some (Refused f)
 
+-- The first of two reasons that there is.
 abbrev pub or-else : {X : Type 0} → Option X → Option X → Option X
 or-else None y = y
 or-else (Some x) y = Some x
 
+-- Why a record is not placed: it cannot be read, or the net refuses it.
 abbrev pub reason-at : List Plain → ℕ → ℕ → List ℕ → Option Reason
 reason-at ws long b bs = or-else (misread b bs) (carried (refusal (length ws) long (request-at b bs)))
 
@@ -97,6 +99,7 @@ abbrev pub first-high : ℕ → List ℕ → ℕ
 first-high n [] = 0
 first-high n (p ∷ ps) = cond (leb n p) 0 (suc (first-high n ps))
 
+-- The pins of a request; an input has none.
 abbrev pub pins-asked : Request → List ℕ
 pins-asked (ask-input start changes) = []
 pins-asked (ask-gate kind pins) = pins
@@ -119,6 +122,7 @@ pub record Outcome : Type 0 where
   pub wires : List Plain
   pub answer : Result ℕ ReadFault
 
+-- What comes of a reason to stop, or of going on where there is none.
 abbrev pub stopped : {X Y : Type 0} → Option X → (X → Y) → Y → Y
 stopped None stop more = more
 stopped (Some x) stop more = stop x
