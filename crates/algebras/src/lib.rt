@@ -1,5 +1,7 @@
 //! Transients of gate nets, the kinds of gate, and the algebras that grade transients.
 
+#![tactic(auto)]
+
 pub mod algebra;
 pub mod counted;
 pub mod eight;

@@ -1,5 +1,7 @@
 //! Lists a net: the cap and the records of standard input, as a line for each wire.
 
+#![tactic(auto)]
+
 mod fault;
 mod list;
 #[cfg(test)]

@@ -44,7 +44,7 @@ kept_entries L a ws column long entries =
     get_or-take (length ws) column w (L.grade a zero_word) l ∙ entries w l ∙ sym (getD_images (L.grade a) (transients ws) w zero_word))
 
 -- To follow calls is to have their plain net and a kept column.
-pub follow : {X G : Type 0} (L : Ghosts X G) (n : Net X G) (column : List G) (calls : List PlainCall)
+pub follow : {X G : Type 0} (L : Ghosts X G) (n : Net X G L) (column : List G) (calls : List PlainCall)
     → net_wires n ≡ plain_of calls → ColumnKept L n column → Follows L n column calls
 follow L n column calls wires kept =
     let a = n.algebra in
@@ -57,7 +57,7 @@ follow L n column calls wires kept =
       entries = λ w h. of_transient (plain_of calls) lower w (λ t. entry L a column w ≡ L.grade a t) (standing_kept L a (plain_of calls) column there w h);
     }
 
-pub followed : {X G : Type 0} (L : Ghosts X G) (n : Net X G) (column : List G) (calls : List PlainCall) → Follows L n column calls → ColumnKept L n column
+pub followed : {X G : Type 0} (L : Ghosts X G) (n : Net X G L) (column : List G) (calls : List PlainCall) → Follows L n column calls → ColumnKept L n column
 followed L n column calls f =
     let a = n.algebra in
     let lower = subst Lower f.wires n.lower in
@@ -71,7 +71,7 @@ plain_after_push ws [] x = refl
 plain_after_push ws (y ∷ ys) x = plain_after_push (plain_step ws y) ys x
 
 -- A call that makes the step of the plain net and keeps a kept column goes on following.
-pub goes_on : {X G : Type 0} (L : Ghosts X G) (n m : Net X G) (column rest : List G) (x : PlainCall)
+pub goes_on : {X G : Type 0} (L : Ghosts X G) (n m : Net X G L) (column rest : List G) (x : PlainCall)
     → net_wires m ≡ plain_step (net_wires n) x → (ColumnKept L n column → ColumnKept L m rest) → GoesOn L n column m rest x
 goes_on L n m column rest x step kept calls f =
     follow L m rest (calls ++ x ∷ [])
@@ -79,7 +79,7 @@ goes_on L n m column rest x step kept calls f =
     (kept (followed L n column calls f))
 
 -- What is answered of a wire's transient in a kept column is answered of its longest history in one that follows.
-pub answers_follow : {X G V : Type 0} (L : Ghosts X G) (n : Net X G) (column : List G) (w : ℕ) (of : Transient → V) (r : Result V NetFault)
+pub answers_follow : {X G V : Type 0} (L : Ghosts X G) (n : Net X G L) (column : List G) (w : ℕ) (of : Transient → V) (r : Result V NetFault)
     → (ColumnKept L n column → r ≡ answer_of_asking n column w (of (transient (net_wires n) w)))
     → (calls : List PlainCall) → Follows L n column calls
     → OfLongest (plain_of calls) w (λ t. r ≡ answered (length (plain_of calls)) (length column) w (of t))
@@ -88,18 +88,18 @@ answers_follow {V = V} L n column w of r kept calls f =
     of_transient (plain_of calls) (subst Lower f.wires n.lower) w (λ t. r ≡ answered (length (plain_of calls)) (length column) w (of t))
     (subst P f.wires (kept (followed L n column calls f)))
 
-pub looks_up_follows : {X G : Type 0} (L : Ghosts X G) (n : Net X G) (column : List G) (w : ℕ) (r : Result G NetFault)
+pub looks_up_follows : {X G : Type 0} (L : Ghosts X G) (n : Net X G L) (column : List G) (w : ℕ) (r : Result G NetFault)
     → (ColumnKept L n column → r ≡ answer_of_asking n column w (grade_of L n w))
     → (calls : List PlainCall) → Follows L n column calls → LooksUpLongest L n.algebra (plain_of calls) (length column) w r
 looks_up_follows L n column w r kept = answers_follow L n column w (L.grade n.algebra) r kept
 
-pub tells_follows : {X G : Type 0} (L : Ghosts X G) (n : Net X G) (column : List G) (w : ℕ) (r : Result Told NetFault)
+pub tells_follows : {X G : Type 0} (L : Ghosts X G) (n : Net X G L) (column : List G) (w : ℕ) (r : Result Told NetFault)
     → (ColumnKept L n column → r ≡ answer_of_asking n column w (told_of (transient (net_wires n) w)))
     → (calls : List PlainCall) → Follows L n column calls → TellsLongest (plain_of calls) (length column) w r
 tells_follows L n column w r kept = answers_follow L n column w told_of r kept
 
 -- An empty net follows no calls, with any column.
-pub opened : {X G : Type 0} (L : Ghosts X G) (n : Net X G) (column : List G) → net_wires n ≡ [] → Follows L n column []
+pub opened : {X G : Type 0} (L : Ghosts X G) (n : Net X G L) (column : List G) → net_wires n ≡ [] → Follows L n column []
 opened L n column wires =
     let K : List Plain → Type 0 = λ ws. Kept L n.algebra ws column in
     follow L n column [] wires (subst K (sym wires) refl)

@@ -69,14 +69,14 @@ unless_same None x y same = ap (unless None) (same refl)
 unless_same (Some f) x y same = refl
 
 -- In a kept column looking up answers the grade of the wire's transient.
-pub looked_up_kept : {X G : Type 0} (L : Ghosts X G) (n : Net X G) (column : List G) (w : ℕ)
+pub looked_up_kept : {X G : Type 0} (L : Ghosts X G) (n : Net X G L) (column : List G) (w : ℕ)
     → ((t : Transient) → L.reads n.algebra (L.grade n.algebra t) ≡ L.grade n.algebra t)
     → ColumnKept L n column → looked_up L n column w ≡ answer_of_asking n column w (grade_of L n w)
 looked_up_kept L n column w reads kept =
     unless_same _ _ _ (λ e. ap (L.reads n.algebra) (standing_kept L n.algebra (net_wires n) column kept w (asked_stands _ _ _ e)) ∙ reads _)
 
 -- Where a net follows calls, looking up answers the grade of the longest history of the plain net of the calls.
-pub looks_up_played : {X G : Type 0} (L : Ghosts X G) (a : X) (n : Net X G) (column : List G) (long : ℕ) (calls : List PlainCall)
+pub looks_up_played : {X G : Type 0} (L : Ghosts X G) (a : X) (n : Net X G L) (column : List G) (long : ℕ) (calls : List PlainCall)
     → n.algebra ≡ a → length column ≡ long → ((t : Transient) → L.reads n.algebra (L.grade n.algebra t) ≡ L.grade n.algebra t)
     → Follows L n column calls → (w : ℕ) → LooksUpLongest L a (plain_of calls) long w (looked_up L n column w)
 looks_up_played {X = X} L a n column long calls same kept_long reads f w =
@@ -84,5 +84,5 @@ looks_up_played {X = X} L a n column long calls same kept_long reads f w =
     subst₂ P same kept_long (looks_up_follows L n column w (looked_up L n column w) (looked_up_kept L n column w reads) calls f)
 
 -- Some order then serves its gates one after another, and every order gives each wire a beginning of what that one gives it.
-pub in_turn_played : {X G : Type 0} (L : Ghosts X G) (n : Net X G) (column : List G) (calls : List PlainCall) → Follows L n column calls → LongestInTurn (plain_of calls)
+pub in_turn_played : {X G : Type 0} (L : Ghosts X G) (n : Net X G L) (column : List G) (calls : List PlainCall) → Follows L n column calls → LongestInTurn (plain_of calls)
 in_turn_played L n column calls f = longest_in_turn (plain_of calls) (subst Lower f.wires n.lower)

@@ -13,22 +13,22 @@ use Rattle.nets.specs.Transients.{transient}
 use Rattle.nets.specs.Working.{entry}
 
 -- An answer about wire w of a net with a column: refused where there is no such wire, then where the column is too short.
-abbrev pub answer_of_asking : {X G V : Type 0} → Net X G → List G → ℕ → V → Result V NetFault
+abbrev pub answer_of_asking : {X G V : Type 0} {L : Ghosts X G} → Net X G L → List G → ℕ → V → Result V NetFault
 answer_of_asking n column w x = answered (length (net_wires n)) (length column) w x
 
 -- The entry of wire w, as it stands and as read.
-abbrev pub entry_of : {X G : Type 0} → Ghosts X G → Net X G → List G → ℕ → G
+abbrev pub entry_of : {X G : Type 0} (L : Ghosts X G) → Net X G L → List G → ℕ → G
 entry_of L n column w = entry L n.algebra column w
 
-abbrev pub reading_of : {X G : Type 0} → Ghosts X G → Net X G → List G → ℕ → G
+abbrev pub reading_of : {X G : Type 0} (L : Ghosts X G) → Net X G L → List G → ℕ → G
 reading_of L n column w = L.reads n.algebra (entry_of L n column w)
 
 -- What looking up wire w answers: the entry, as read.
-abbrev pub looked_up : {X G : Type 0} → Ghosts X G → Net X G → List G → ℕ → Result G NetFault
+abbrev pub looked_up : {X G : Type 0} (L : Ghosts X G) → Net X G L → List G → ℕ → Result G NetFault
 looked_up L n column w = answer_of_asking n column w (reading_of L n column w)
 
 -- The grade of the transient of wire w.
-abbrev pub grade_of : {X G : Type 0} → Ghosts X G → Net X G → ℕ → G
+abbrev pub grade_of : {X G : Type 0} (L : Ghosts X G) → Net X G L → ℕ → G
 grade_of L n w = L.grade n.algebra (transient (net_wires n) w)
 
 -- What a telling algebra tells of an entry.

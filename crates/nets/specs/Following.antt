@@ -19,7 +19,7 @@ OfLongest net w P = (t : Transient) × (Longest net w (word t) × P t)
 
 -- A net with a column follows calls: its wires are the plain net of the calls, and the entry of each is the grade of its longest
 -- history.
-pub record Follows {X G : Type 0} (L : Ghosts X G) (n : Net X G) (column : List G) (calls : List PlainCall) : Type 0 where
+pub record Follows {X G : Type 0} (L : Ghosts X G) (n : Net X G L) (column : List G) (calls : List PlainCall) : Type 0 where
   pub wires : net_wires n ≡ plain_of calls
   pub long : length (plain_of calls) ≤ length column
   pub entries : (w : ℕ) → w < length (plain_of calls) → OfLongest (plain_of calls) w (λ t. entry L n.algebra column w ≡ L.grade n.algebra t)
@@ -34,5 +34,5 @@ TellsLongest net long w r = OfLongest net w (λ t. r ≡ answered (length net) l
 
 -- A call goes on following: a net and a column that follow a list of calls before it follow, after it, that list with this call at its
 -- end.
-abbrev pub GoesOn : {X G : Type 0} → Ghosts X G → Net X G → List G → Net X G → List G → PlainCall → Type 0
+abbrev pub GoesOn : {X G : Type 0} (L : Ghosts X G) → Net X G L → List G → Net X G L → List G → PlainCall → Type 0
 GoesOn L n column n' column' x = (calls : List PlainCall) → Follows L n column calls → Follows L n' column' (calls ++ x ∷ [])

@@ -12,36 +12,36 @@ use Rattle.nets.specs.Placing.{Request, asked, place_answer, placed, filled}
 use Rattle.nets.specs.Records.{Outcome, column_reading, reading, reason_of, request_of}
 
 -- The wires of a net.
-abbrev pub net_wires : {X G : Type 0} → Net X G → List Plain
+abbrev pub net_wires : {X G : Type 0} {L : Ghosts X G} → Net X G L → List Plain
 net_wires n = map plain (vec_items n.table.wires)
 
 -- A column is kept for a net where its first entries are the grades of the net's wires.
-abbrev pub ColumnKept : {X G : Type 0} → Ghosts X G → Net X G → List G → Type 0
+abbrev pub ColumnKept : {X G : Type 0} (L : Ghosts X G) → Net X G L → List G → Type 0
 ColumnKept L n column = Kept L n.algebra (net_wires n) column
 
 -- What placing answers on a net and a column, and the wires and the column after it.
-abbrev pub answer_of_placing : {X G : Type 0} → Net X G → List G → Request → Result ℕ NetFault
+abbrev pub answer_of_placing : {X G : Type 0} {L : Ghosts X G} → Net X G L → List G → Request → Result ℕ NetFault
 answer_of_placing n column q = place_answer (net_wires n) (length column) q
 
-abbrev pub wires_after_placing : {X G : Type 0} → Net X G → List G → Request → List Plain
+abbrev pub wires_after_placing : {X G : Type 0} {L : Ghosts X G} → Net X G L → List G → Request → List Plain
 wires_after_placing n column q = placed (net_wires n) (length column) q
 
-abbrev pub column_after_placing : {X G : Type 0} → Ghosts X G → Net X G → List G → Request → List G
+abbrev pub column_after_placing : {X G : Type 0} (L : Ghosts X G) → Net X G L → List G → Request → List G
 column_after_placing L n column q = filled L n.algebra (net_wires n) column q
 
 -- Why the record that bytes begin with is not placed, and the wires and the column after it.
-abbrev pub reason_of_record : {X G : Type 0} → Net X G → List G → List ℕ → Option Reason
+abbrev pub reason_of_record : {X G : Type 0} {L : Ghosts X G} → Net X G L → List G → List ℕ → Option Reason
 reason_of_record n column bytes = reason_of (net_wires n) (length column) bytes
 
-abbrev pub wires_after_record : {X G : Type 0} → Net X G → List G → List ℕ → List Plain
+abbrev pub wires_after_record : {X G : Type 0} {L : Ghosts X G} → Net X G L → List G → List ℕ → List Plain
 wires_after_record n column bytes = settled (reason_of_record n column bytes) (net_wires n ++ asked (request_of bytes) ∷ []) (net_wires n)
 
-abbrev pub column_after_record : {X G : Type 0} → Ghosts X G → Net X G → List G → List ℕ → List G
+abbrev pub column_after_record : {X G : Type 0} (L : Ghosts X G) → Net X G L → List G → List ℕ → List G
 column_after_record L n column bytes = settled (reason_of_record n column bytes) (slice_set column (length (net_wires n)) (worked L n.algebra column (asked (request_of bytes)))) column
 
 -- What reading bytes onto a net with a column leaves and answers.
-abbrev pub outcome_of_reading : {X G : Type 0} → Net X G → List G → List ℕ → Outcome
+abbrev pub outcome_of_reading : {X G : Type 0} {L : Ghosts X G} → Net X G L → List G → List ℕ → Outcome
 outcome_of_reading n column bytes = reading (length column) 0 0 0 (net_wires n) bytes
 
-abbrev pub column_after_reading : {X G : Type 0} → Ghosts X G → Net X G → List G → List ℕ → List G
+abbrev pub column_after_reading : {X G : Type 0} (L : Ghosts X G) → Net X G L → List G → List ℕ → List G
 column_after_reading L n column bytes = column_reading L n.algebra 0 (net_wires n) column bytes

@@ -1,5 +1,7 @@
 //! Gate nets without feedback, worked under any algebra of transients, and their records.
 
+#![tactic(auto)]
+
 pub mod arrivals;
 pub mod call;
 pub mod fault;

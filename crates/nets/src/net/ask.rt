@@ -41,7 +41,7 @@ impl<L: Algebra> Net<L> {
 impl<L: Telling> Net<L> {
     /// The start, the end and the verdict of a wire: in a kept column, those of the wire's transient, which is its longest history.
     pub fn tell(&self, column: &[L::Grade], wire: usize) -> Result<Told, NetFault>
-        ensures answer { result ≡ answer_of_asking self.now column.now wire (telling L.Telling self.now.algebra (entry_of L.Algebra self.now column.now wire)) }
+        ensures answer { result ≡ answer_of_asking self.now column.now wire (telling L.Telling.own self.now.algebra (entry_of L.Algebra self.now column.now wire)) }
         ensures kept { ColumnKept L.Algebra self.now column.now → result ≡ answer_of_asking self.now column.now wire (told_of (transient (net_wires self.now) wire)) }
         ensures follows { (calls : List PlainCall) → Follows L.Algebra self.now column.now calls → TellsLongest (plain_of calls) (length column.now) wire result }
     {

@@ -5,6 +5,6 @@ use Rattle.listing.proofs.list.input_text.Goals as goal
 
 pub returns : goal.returns
 returns c =
-    let a = c.in-ok-algebra.ensures in
-    let long : length c.as-mut-slice.result.now ≡ 512 = search rules in
+    let a = c.in_ok-algebra.ensures in
+    let long : length c.as_mut_slice.result.now ≡ 512 = search rules in
     records_input c.records_text.result c.args.input.now _ _ _ a.0 a.1 long (take_rest c.args.input.now 2) c.records_text.ensures

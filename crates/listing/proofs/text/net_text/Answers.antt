@@ -10,9 +10,9 @@ loop-wire-preserved c =
     let n = c.args.net.now in
     let ts = transients (net_wires n) in
     let long = length_transients (net_wires n) in
-    lines_more c.args.algebra.now.«cap» c.loop-wire.wire ts (string_bytes c.loop-wire.text) (string_bytes c.push-str.new.self) (string_bytes c.in-ok-line.line) _
-    (omega (arith, c.wires-wires.ensures)) c.in-ok-line.ensures
-    (c.in-ok-push-str.ensures.bytes ∙ ap (λ x. string_bytes c.loop-wire.text ++ x) c.as-str.ensures.value)
+    lines_more c.args.algebra.now.«cap» c.loop-wire.wire ts (string_bytes c.loop-wire.text) (string_bytes c.push_str.new.self) (string_bytes c.in_ok-line.line) _
+    (omega (arith, c.wires-wires.ensures)) c.in_ok-line.ensures
+    (c.in_ok-push_str.ensures.bytes ∙ ap (λ x. string_bytes c.loop-wire.text ++ x) c.as_str.ensures.value)
     c.loop-wire.invariant
 
 pub returns : goal.returns

@@ -11,6 +11,6 @@ unreachable-requires c =
     let n = c.args.net.now in
     let long = kept_long ghosts n.algebra (net_wires n) c.args.column.now c.requires.kept in
     let passes = question_passes (length (net_wires n)) (length c.args.column.now) c.args.wire c.requires.stands long in
-    let refused = unless_err _ _ c.in-default.field-0 (sym c.in-default.ensures.answer) in
+    let refused = unless_err _ _ c.in_default.field-0 (sym c.in_default.ensures.answer) in
     let z : ◌≡◌ {A = ℕ} 0 1 = cc (sym passes ∙ refused) in
     omega arith

@@ -9,18 +9,18 @@ use Rattle.nets.proofs.Placements.{within_below, wires_push}
 use Rattle.nets.proofs.Wiring.{lower_push, fitting_push}
 use Rattle.nets.proofs.net.Net.append.Goals as goal
 
-pub push-reserved-requires : goal.push-reserved-requires
-push-reserved-requires g c =
+pub push_reserved-requires : goal.push_reserved-requires
+push_reserved-requires g c =
     let v = c.args.self.now.table.wires in
     let n = v.ok.0 ∙ sym (length-map (vec_items v) plain) in
     omega (arith, c.requires.few, c.args.self.now.table.room)
 
-pub invariant-of-self : goal.invariant-of-self
-invariant-of-self g c =
+pub invariant_of-self : goal.invariant_of-self
+invariant_of-self g c =
     let v = c.args.self.now.table.wires in
     let n = v.ok.0 ∙ sym (length-map (vec_items v) plain) in
-    let items = wires_push (vec_items v) (vec_items c.push-reserved.new.self) c.args.wire c.push-reserved.ensures.items in (
-      (omega (arith, c.push-reserved.ensures.len, c.requires.few), (omega (arith, c.push-reserved.ensures.capacity, c.args.self.now.table.room), tt)),
+    let items = wires_push (vec_items v) (vec_items c.push_reserved.new.self) c.args.wire c.push_reserved.ensures.items in (
+      (omega (arith, c.push_reserved.ensures.len, c.requires.few), (omega (arith, c.push_reserved.ensures.capacity, c.args.self.now.table.room), tt)),
       (subst Lower (sym items) (lower_push (net_wires c.args.self.now) (plain c.args.wire) c.args.self.now.lower (within_below _ _ c.requires.lower)), (subst Fitting (sym items) (fitting_push (net_wires c.args.self.now) (plain c.args.wire) c.args.self.now.fitting c.requires.fitting), tt)),
     )
 
@@ -36,7 +36,7 @@ returns g c =
       products_grades = met.products_grades a;
       exclusives_grades = met.exclusives_grades a;
     } in
-    let wires = wires_push (vec_items n.table.wires) (vec_items c.push-reserved.new.self) c.args.wire c.push-reserved.ensures.items in
+    let wires = wires_push (vec_items n.table.wires) (vec_items c.push_reserved.new.self) c.args.wire c.push_reserved.ensures.items in
     let filled = ap₂ (set c.args.column.now) c.wires-number.ensures c.work-grade.ensures in
     record {
       net = wires;

@@ -5,5 +5,5 @@ use Rattle.nets.proofs.net.Net.open.Goals as goal
 
 pub returns : goal.returns
 returns g c =
-    let wires = ap (map plain) c.in-ok-wires.ensures.items in
+    let wires = ap (map plain) c.in_ok-wires.ensures.items in
     record { wires = wires; algebra = refl; follows = λ column. opened g.L.Algebra _ column wires }

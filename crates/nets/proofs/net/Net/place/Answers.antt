@@ -10,36 +10,36 @@ use Rattle.nets.proofs.Followed.{goes_on}
 use Rattle.nets.proofs.Placements.{unless_ok, unless_err, unless_passed, settled_passed, unless_refused, settled_refused, room_is, admitted, refused_room, refused_request}
 use Rattle.nets.proofs.net.Net.place.Goals as goal
 
-pub returns-in-err-number : goal.returns-in-err-number
-returns-in-err-number g c =
-    let f = c.in-err-number.field-0.0 in
-    let s = refused_room _ (length c.args.column.now) (plain_request c.args.request) f (unless_err _ _ f (sym c.in-err-number.ensures)) in
-    let p = err_from_is_err_and c.from-residual.result c.from-residual.ensures.1 in
+pub returns-in_err-number : goal.returns-in_err-number
+returns-in_err-number g c =
+    let f = c.in_err-number.field-0.0 in
+    let s = refused_room _ (length c.args.column.now) (plain_request c.args.request) f (unless_err _ _ f (sym c.in_err-number.ensures)) in
+    let p = err_from_is_err_and c.from_residual.result c.from_residual.ensures.1 in
     record { answer = p.1 ∙ ap Err p.2 ∙ unless_refused _ _ f s; net = settled_refused _ _ _ f s; algebra = refl; column = settled_refused _ _ _ f s; kept = λ k. k; follows = goes_on g.L.Algebra _ _ _ c.args.column.now (places (length c.args.column.now) (plain_request c.args.request)) (settled_refused _ _ _ f s) (λ k. k) }
 
-pub returns-in-err-wire : goal.returns-in-err-wire
-returns-in-err-wire g c =
-    let f = c.in-err-wire.field-0.0 in
-    let room = unless_ok _ _ _ (sym c.in-ok-number.ensures) in
-    let s = refused_request _ (length c.args.column.now) _ (plain_request c.args.request) f room.0 room.1 c.in-err-wire.ensures in
-    let p = err_from_is_err_and c.from-residual-in-err-wire.result c.from-residual-in-err-wire.ensures.1 in
+pub returns-in_err-wire : goal.returns-in_err-wire
+returns-in_err-wire g c =
+    let f = c.in_err-wire.field-0.0 in
+    let room = unless_ok _ _ _ (sym c.in_ok-number.ensures) in
+    let s = refused_request _ (length c.args.column.now) _ (plain_request c.args.request) f room.0 room.1 c.in_err-wire.ensures in
+    let p = err_from_is_err_and c.from_residual-in_err-wire.result c.from_residual-in_err-wire.ensures.1 in
     record { answer = p.1 ∙ ap Err p.2 ∙ unless_refused _ _ f s; net = settled_refused _ _ _ f s; algebra = refl; column = settled_refused _ _ _ f s; kept = λ k. k; follows = goes_on g.L.Algebra _ _ _ c.args.column.now (places (length c.args.column.now) (plain_request c.args.request)) (settled_refused _ _ _ f s) (λ k. k) }
 
 pub append-requires : goal.append-requires
 append-requires g c =
-    let room = unless_ok _ _ _ (sym c.in-ok-number.ensures) in
+    let room = unless_ok _ _ _ (sym c.in_ok-number.ensures) in
     let r = room_is _ _ room.0 in
-    let W : ℕ → Type 0 = λ n. Within n (plain c.in-ok-wire.wire) in
-    record { few = r.0; long = r.1; lower = subst W (sym room.1) c.in-ok-wire.ensures.2; fitting = c.in-ok-wire.ensures.3 }
+    let W : ℕ → Type 0 = λ n. Within n (plain c.in_ok-wire.wire) in
+    record { few = r.0; long = r.1; lower = subst W (sym room.1) c.in_ok-wire.ensures.2; fitting = c.in_ok-wire.ensures.3 }
 
 pub returns : goal.returns
 returns g c =
     let n = c.args.self.now in
     let column = c.args.column.now in
-    let room = unless_ok _ _ _ (sym c.in-ok-number.ensures) in
+    let room = unless_ok _ _ _ (sym c.in_ok-number.ensures) in
     let q = plain_request c.args.request in
-    let s = admitted _ (length column) _ q room.0 room.1 c.in-ok-wire.ensures.0 in
-    let same = c.in-ok-wire.ensures.1 in
+    let s = admitted _ (length column) _ q room.0 room.1 c.in_ok-wire.ensures.0 in
+    let same = c.in_ok-wire.ensures.1 in
     let net = c.append.ensures.net ∙ ap (λ (w : Plain). net_wires n ++ w ∷ []) same ∙ settled_passed _ _ _ s in
     record {
       answer = ap Ok (sym room.1) ∙ unless_passed _ _ s;

@@ -10,15 +10,15 @@ use Rattle.nets.proofs.Placements.{unless_ok, unless_err, unless_passed, settled
 use Rattle.nets.proofs.Readings.{known_from, readable, record_refused, record_admitted}
 use Rattle.nets.proofs.net.Net.place_record.Goals as goal
 
-pub returns-in-err-place : goal.returns-in-err-place
-returns-in-err-place g c =
+pub returns-in_err-place : goal.returns-in_err-place
+returns-in_err-place g c =
     let bytes = c.args.bytes.now in
-    let f = c.in-err-place.field-0.0 in
-    let size = unless_ok _ _ _ (sym c.in-ok-size.ensures) in
+    let f = c.in_err-place.field-0.0 in
+    let size = unless_ok _ _ _ (sym c.in_ok-size.ensures) in
     let read = readable bytes _ (known_from _ size.0) size.1 c.if-bytes-size.false in
-    let s = unless_err _ _ f (sym c.in-err-place.ensures.answer) in
+    let s = unless_err _ _ f (sym c.in_err-place.ensures.answer) in
     let t = record_refused (net_wires c.args.self.now) (length c.args.column.now) bytes _ f read (sym c.request_in.ensures) s in
-    let p = err_from_is_err_and c.from-residual-in-err-place.result c.from-residual-in-err-place.ensures.1 in
+    let p = err_from_is_err_and c.from_residual-in_err-place.result c.from_residual-in_err-place.ensures.1 in
     record {
       answer = p.1 ∙ ap Err p.2 ∙ unless_refused _ _ (unplaced (Refused f)) (ap (option_map unplaced) t);
       net = c.place.ensures.net ∙ sym (settled_refused _ _ _ f s) ∙ settled_refused _ _ _ (Refused f) t;
@@ -32,9 +32,9 @@ returns g c =
     let bytes = c.args.bytes.now in
     let n = c.args.self.now in
     let column = c.args.column.now in
-    let size = unless_ok _ _ _ (sym c.in-ok-size.ensures) in
+    let size = unless_ok _ _ _ (sym c.in_ok-size.ensures) in
     let read = readable bytes _ (known_from _ size.0) size.1 c.if-bytes-size.false in
-    let s = (unless_ok _ _ _ (sym c.in-ok-place.ensures.answer)).0 in
+    let s = (unless_ok _ _ _ (sym c.in_ok-place.ensures.answer)).0 in
     let asks = sym c.request_in.ensures in
     let t = record_admitted (net_wires n) (length column) bytes _ read asks s in
     record {

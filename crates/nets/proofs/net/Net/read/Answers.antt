@@ -33,8 +33,8 @@ placed g c =
     c.in-Ok.size (net_wires c.place_record.new.self) c.place_record.new.column (mapped_none _ _ ok.0) ok.1 c.place_record.ensures.net
     (c.place_record.ensures.column ∙ ap (λ a. settled (reason_of ws (length column) rest) (set column (length ws) (worked L a column (asked (request_of rest)))) column) c.loop-at.invariant.2)
 
-pub overflow-add-at : goal.overflow-add-at
-overflow-add-at g c = let t = (placed g c).0 in omega arith
+pub overflow_add-at : goal.overflow_add-at
+overflow_add-at g c = let t = (placed g c).0 in omega arith
 
 pub loop-at-smaller : goal.loop-at-smaller
 loop-at-smaller g c =

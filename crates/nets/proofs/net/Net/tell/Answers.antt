@@ -8,11 +8,11 @@ use Rattle.nets.proofs.Grading.{standing_kept}
 use Rattle.nets.proofs.Placements.{unless_ok, unless_err, unless_passed, unless_refused, asked_stands, same_told}
 use Rattle.nets.proofs.net.Net.tell.Goals as goal
 
-pub returns-in-err-entry : goal.returns-in-err-entry
-returns-in-err-entry g c =
-    let f = c.in-err-entry.field-0.0 in
-    let s = unless_err _ _ f (sym c.in-err-entry.ensures) in
-    let p = err_from_is_err_and c.from-residual.result c.from-residual.ensures.1 in
+pub returns-in_err-entry : goal.returns-in_err-entry
+returns-in_err-entry g c =
+    let f = c.in_err-entry.field-0.0 in
+    let s = unless_err _ _ f (sym c.in_err-entry.ensures) in
+    let p = err_from_is_err_and c.from_residual.result c.from_residual.ensures.1 in
     let e = p.1 ∙ ap Err p.2 in
     record {
       answer = e ∙ unless_refused _ _ f s;
@@ -24,7 +24,7 @@ pub returns : goal.returns
 returns g c =
     let n = c.args.self.now in
     let a = n.algebra in
-    let s = unless_ok _ _ _ (sym c.in-ok-entry.ensures) in
+    let s = unless_ok _ _ _ (sym c.in_ok-entry.ensures) in
     let t = transient (net_wires n) c.args.wire in
     let kept = λ (k : ColumnKept g.L.Algebra n c.args.column.now).
     (let e = sym s.1 ∙ standing_kept g.L.Algebra a (net_wires n) _ k _ (asked_stands _ _ _ s.0) in

@@ -4,8 +4,8 @@ use Rattle.nets.specs.Working.{joins, entry}
 use Rattle.nets.proofs.Joining.{joined_more, joined_all}
 use Rattle.nets.proofs.net.work.join_pins.Goals as goal
 
-pub offset-bounds-column-pin : goal.offset-bounds-column-pin
-offset-bounds-column-pin g c = omega (arith, c.requires c.loop-pin.pin-index c.loop-pin-test.true)
+pub offset_bounds-column-pin : goal.offset_bounds-column-pin
+offset_bounds-column-pin g c = omega (arith, c.requires c.loop-pin.pin-index c.loop-pin-test.true)
 
 pub bounds-column-pin : goal.bounds-column-pin
 bounds-column-pin g c = c.requires c.loop-pin.pin-index c.loop-pin-test.true

@@ -6,8 +6,8 @@ use Rattle.nets.specs.Working.{joins, gives, gate_grade, entry, entries}
 use Rattle.nets.proofs.Joining.{others_below, gate_grade_parts}
 use Rattle.nets.proofs.net.work.work_gate.Goals as goal
 
-pub join-pins-joined-requires : goal.join-pins-joined-requires
-join-pins-joined-requires g c =
+pub join_pins-joined-requires : goal.join_pins-joined-requires
+join_pins-joined-requires g c =
     others_below (length c.args.column.now) c.as_slice-pins.result.now
     (rw c.as_slice-pins.ensures c.requires.within)
 

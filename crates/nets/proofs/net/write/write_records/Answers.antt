@@ -4,8 +4,8 @@ use Rattle.nets.specs.Writing.{record_of}
 use Rattle.nets.proofs.Writings.{length_written, size_more, written_more, written_none}
 use Rattle.nets.proofs.net.write.write_records.Goals as goal
 
-pub write-record-at-requires : goal.write-record-at-requires
-write-record-at-requires c =
+pub write_record-at-requires : goal.write_record-at-requires
+write_record-at-requires c =
     let more = size_more c.args.wires.now c.loop-wire.wire-index c.wire-item.result c.loop-wire-test.true c.wire-item.is in
     omega arith
 

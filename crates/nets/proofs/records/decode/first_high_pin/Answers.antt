@@ -23,7 +23,7 @@ loop-at-preserved c =
     let long = rest_length bytes c.loop-at.at in
     let size = unless_ok _ _ _ (sym c.in-Ok.ensures) in
     let read = readable rest _ (known_from _ size.0) size.1 c.if-record-size.false in
-    let ps = c.as_slice-named-items.ensures ∙ c.of_pins.ensures in
+    let ps = c.as_slice-named-items.ensures ∙ c.of-pins.ensures in
     let low = sym (ap (λ (qs : List ℕ). or_of (map (leb w) qs)) ps) ∙ sym c.loop-pin.invariant.0 ∙ high_none w c.as_slice-named-items.result.now c.loop-pin.pin c.loop-pin-test.false in
     let on = search_goes_on w rest (omega arith) read c.if-wire-ge512.false low in (
       omega arith,
@@ -31,12 +31,12 @@ loop-at-preserved c =
           ∙ sym on ∙ ap (search_high 0 w) (take_rest bytes c.loop-at.at) ∙ c.loop-at.invariant.1,
     )
 
-pub returns-in-default : goal.returns-in-default
-returns-in-default c =
+pub returns-in_default : goal.returns-in_default
+returns-in_default c =
     let w = c.loop-at.wire in
     let bytes = c.args.bytes.now in
     let rest = take (length bytes - c.loop-at.at) (drop c.loop-at.at bytes) in
-    let bad = misread_unknown rest (unknown_from _ _ (unless_err _ _ _ (sym c.in-default.ensures))) in
+    let bad = misread_unknown rest (unknown_from _ _ (unless_err _ _ _ (sym c.in_default.ensures))) in
     sym (search_stops w rest (or_left _ _ (ap is_some bad)))
     ∙ ap (search_high 0 w) (take_rest bytes c.loop-at.at) ∙ c.loop-at.invariant.1
 
@@ -61,7 +61,7 @@ returns-then-named-wire c =
     let size = unless_ok _ _ _ (sym c.in-Ok.ensures) in
     let read = readable rest _ (known_from _ size.0) size.1 c.if-record-size.false in
     let qs = c.as_slice-named-items.result.now in
-    let ps = c.as_slice-named-items.ensures ∙ c.of_pins.ensures in
+    let ps = c.as_slice-named-items.ensures ∙ c.of-pins.ensures in
     let high = sym (ap (λ (qs : List ℕ). or_of (map (leb w) qs)) ps) ∙ sym c.loop-pin.invariant.0 ∙ high_here w qs c.loop-pin.pin c.loop-pin-test.true c.if-named-wire.true in
     let here = first_here w qs c.loop-pin.pin c.loop-pin-test.true c.if-named-wire.true in
     let pin : c.loop-pin.pin ≡ first_high w qs = omega (arith, here, c.loop-pin.invariant.1) in
