@@ -6,34 +6,35 @@ use algebras::counted::Counted;
 use algebras::counted::grade::CountedGrade;
 use algebras::eight::{Eight, EightGrade};
 use algebras::five::{Five, FiveGrade, Symbol};
+use std::process::Abort;
 use std::test::*;
 
 /// An algebra whose grades are held to histories.
 pub trait Graded: Algebra {
     /// Checks that a grade says of a history all that the algebra tells apart.
-    fn check_grade(&self, x: Self::Grade, history: History) -> Result<(), Fail>;
+    fn check_grade(&self, rt: &impl Abort, x: Self::Grade, history: History) -> Result<(), Fail>;
 }
 
 impl Graded for Counted {
-    fn check_grade(&self, x: CountedGrade, history: History) -> Result<(), Fail> {
+    fn check_grade(&self, rt: &impl Abort, x: CountedGrade, history: History) -> Result<(), Fail> {
         let count = self.cap().min(history.changes as u16);
-        assert_eq!((x.start, x.end), (history.start, history.end()));
-        assert_eq!(self.count(x), count);
-        assert_eq!(self.saturated(x), count == self.cap());
+        assert_eq!(rt; (x.start, x.end), (history.start, history.end()));
+        assert_eq!(rt; self.count(x), count);
+        assert_eq!(rt; self.saturated(x), count == self.cap());
         Ok(())
     }
 }
 
 impl Graded for Eight {
-    fn check_grade(&self, x: EightGrade, history: History) -> Result<(), Fail> {
-        assert_eq!((x.start, x.end), (history.start, history.end()));
-        assert_eq!(x.more, history.changes > 1);
+    fn check_grade(&self, rt: &impl Abort, x: EightGrade, history: History) -> Result<(), Fail> {
+        assert_eq!(rt; (x.start, x.end), (history.start, history.end()));
+        assert_eq!(rt; x.more, history.changes > 1);
         Ok(())
     }
 }
 
 impl Graded for Five {
-    fn check_grade(&self, x: FiveGrade, history: History) -> Result<(), Fail> {
+    fn check_grade(&self, rt: &impl Abort, x: FiveGrade, history: History) -> Result<(), Fail> {
         let symbol = match (history.changes, history.start) {
             (0, false) => Symbol::Zero,
             (0, true) => Symbol::One,
@@ -41,7 +42,7 @@ impl Graded for Five {
             (1, true) => Symbol::Fall,
             (_, _) => Symbol::Half,
         };
-        assert_eq!(self.symbol(x), symbol);
+        assert_eq!(rt; self.symbol(x), symbol);
         Ok(())
     }
 }

@@ -155,6 +155,7 @@ fn place<L: Algebra>(
 
 // Checks the grades of all wires of a net that is placed.
 fn try_placed<L: Graded + Copy>(
+    rt: &impl Abort,
     heap: Global,
     algebra: L,
     parts: &[Part],
@@ -164,7 +165,7 @@ fn try_placed<L: Graded + Copy>(
     let mut net = Net::open(heap, algebra)?;
     place(&mut net, &mut column, parts)?;
     for (wire, history) in histories.iter().enumerate().take(parts.len()) {
-        algebra.check_grade(net.look_up(&column, wire)?, *history)?;
+        algebra.check_grade(rt, net.look_up(&column, wire)?, *history)?;
     }
     Ok(())
 }
@@ -199,12 +200,12 @@ pub(crate) fn try_net(
     let histories = play(heap, parts)?.ok_or("too large to be played")?;
     for cap in [2, 4, 1000] {
         let counted = Counted::new(cap)?;
-        try_placed(heap, counted, parts, &histories)?;
+        try_placed(rt, heap, counted, parts, &histories)?;
         try_read(rt, heap, counted, parts, &histories)?;
     }
-    try_placed(heap, Eight, parts, &histories)?;
+    try_placed(rt, heap, Eight, parts, &histories)?;
     try_read(rt, heap, Eight, parts, &histories)?;
-    try_placed(heap, Five, parts, &histories)?;
+    try_placed(rt, heap, Five, parts, &histories)?;
     Ok(histories)
 }
 

@@ -122,7 +122,7 @@ fn try_replay<L: Graded + Copy>(rt: &impl Abort, heap: Global, algebra: L) -> Re
             assert_eq!(rt; said(*answer), *expected);
         }
         for (wire, history) in histories.iter().enumerate().take(wires) {
-            algebra.check_grade(played.net.look_up(&column, wire)?, *history)?;
+            algebra.check_grade(rt, played.net.look_up(&column, wire)?, *history)?;
         }
     }
     Ok(())
