@@ -114,10 +114,10 @@ abbrev pub list_refusal : List ℕ → Option ListFault
 list_refusal input = or_late (early_refusal input) (late_refusal (read_in input).answer)
 
 -- The line of a refusal, or a text where there is none.
-abbrev pub text_or_refusal : Option ListFault → List ℕ → List ℕ
-text_or_refusal None text = text
-text_or_refusal (Some f) text = refused_text f
+abbrev pub told : Option ListFault → List ℕ → List ℕ
+told None text = text
+told (Some f) text = refused_text f
 
 -- The whole text that is printed for an input.
 abbrev pub listing_text : List ℕ → List ℕ
-listing_text input = text_or_refusal (list_refusal input) (net_text (cap_in input) (read_in input).wires)
+listing_text input = told (list_refusal input) (net_text (cap_in input) (read_in input).wires)

@@ -2,7 +2,7 @@
 
 ghost use Rattle.std.specs.Prelude.{◌≡◌, ◌≤◌, false, length, is_some, IfOk, Some, None, string_bytes, MatchResult};
 ghost use Rattle.listing.specs.Listing.{ListsLongest, cap_in, early_refusal, list_refusal, listing_text, read_in};
-ghost use Rattle.listing.specs.Texts.{InputListed, RecordsListed};
+ghost use Rattle.listing.specs.Texts.{InputListed, InputTold, RecordsListed, RecordsTold};
 
 use crate::fault::{Fault, ListFault};
 use crate::text::{net_text, refused_line};
@@ -44,7 +44,8 @@ fn records_text(
     column: &mut [CountedGrade],
     records: &[u8],
 ) -> Result<String, Fault>
-    ensures { RecordsListed result algebra.«cap» (length column.old) records.now }
+    ensures told { RecordsTold result algebra.«cap» (length column.old) records.now }
+    ensures longest { RecordsListed result algebra.«cap» (length column.old) records.now }
 {
     let played = replay(heap, algebra, column, &[Call::Read(records)])?;
     let [Answer::Read(read)] = played.answers.as_slice() else {
@@ -56,7 +57,8 @@ fn records_text(
 
 // The text of the net that an input holds.
 fn input_text(heap: Global, input: &[u8]) -> Result<String, Fault>
-    ensures { InputListed result input.now }
+    ensures told { InputTold result input.now }
+    ensures longest { InputListed result input.now }
 {
     let algebra = algebra_of(input)?;
     let blank = algebra.drive(false, 0);

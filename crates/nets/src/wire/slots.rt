@@ -1,11 +1,12 @@
 //! Making wires and their pins.
 
-ghost use Rattle.std.specs.Prelude.{◌≡◌, ◌≤◌, map, length, nat_le};
+ghost use Rattle.std.specs.Prelude.{◌≡◌, ◌≤◌, true, map, length, nat_le, MatchResult};
 ghost use Rattle.algebras.specs.Letters.{or_of};
-ghost use Rattle.nets.specs.Placing.{AskedAs, ask_gate, plain_request};
-ghost use Rattle.nets.specs.Tables.{pin_list};
+ghost use Rattle.nets.specs.Faults.{first_fault};
+ghost use Rattle.nets.specs.Placing.{AskedAs, ask_gate, asked, plain_request, request_checks};
+ghost use Rattle.nets.specs.Tables.{pin_list, plain};
+ghost use Rattle.nets.specs.Wires.{Within, fits};
 ghost use Rattle.nets.specs.declared.wire.Wire.TheVariants.{Output};
-ghost use Rattle.std.specs.Result.{result_map_both};
 
 use crate::fault::NetFault;
 use crate::request::Request;
@@ -47,7 +48,7 @@ fn names_high(pins: &[u16], wire: usize) -> bool
 impl Gate {
     // The gate of that kind and these pins as wire number `wire`, or why there is none.
     pub(crate) fn asked(kind: u8, pins: &[u16], wire: usize) -> Result<Gate, NetFault>
-        ensures { AskedAs wire (ask_gate kind pins.now) (result_map_both Output (λ f. f) result) }
+        ensures { MatchResult result (λ g. (first_fault (request_checks wire (ask_gate kind pins.now)) ≡ None) × (plain (Output g) ≡ asked (ask_gate kind pins.now)) × Within wire (plain (Output g)) × (fits (plain (Output g)) ≡ true)) (λ f. first_fault (request_checks wire (ask_gate kind pins.now)) ≡ Some f) }
     {
         let Some(kind) = Kind::from_number(kind) else {
             return Err(NetFault::BadKind);

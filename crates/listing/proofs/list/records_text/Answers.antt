@@ -19,4 +19,4 @@ returns c =
     let ws = (reading (length c.args.column.now) 0 0 0 [] c.args.records.now).wires in
     let lists = text_lists c.args.algebra.«cap» ws (subst Lower wires c.in_ok-played.played.net.lower) in
     let text = c.in_ok-net_text.ensures ∙ ap (net_text c.args.algebra.«cap») wires in
-    (ap late_refusal (answer ∙ c.in_ok-read.was), text, subst (ListsLongest c.args.algebra.«cap» ws) (sym text) lists)
+    record { told = (ap late_refusal (answer ∙ c.in_ok-read.was), text); longest = subst (ListsLongest c.args.algebra.«cap» ws) (sym text) lists }
