@@ -9,20 +9,20 @@ mod tests;
 mod text;
 
 use crate::list::{MOST, list};
-use anyhow::anyhow;
 use std::io::{Read, Write};
+use std::process::ExitCode;
 
-fn run(rt: &HostRuntime) -> anyhow::Result<()> {
+fn run(rt: &HostRuntime) -> anyhow::Result<ExitCode> {
     let mut input = Vec::new(rt.alloc());
     rt.stdin().take(MOST as u64 + 1).read_to_end(&mut input)?;
     let report = list(rt.alloc(), input.as_slice())?;
     rt.print(report.text.as_str())?;
     if report.refused {
-        return Err(anyhow!("the input is refused"));
+        return Ok(ExitCode::FAILURE);
     }
-    Ok(())
+    Ok(ExitCode::SUCCESS)
 }
 
-fn main(rt: HostRuntime) -> anyhow::Result<()> {
+fn main(rt: HostRuntime) -> anyhow::Result<ExitCode> {
     run(&rt)
 }
