@@ -1,5 +1,5 @@
 -- The counted algebra: the start, the end, and a count of changes up to a cap.
-use Rattle.std.specs.Prelude.{ℕ, ◌+◌, ◌*◌, ◌/◌, min, Bool, true, false, cond, not, ◌&&◌, ◌==◌, nat_lt}
+use Rattle.std.specs.Prelude.{ℕ, ◌+◌, ◌*◌, ◌/◌, min, Bool, cond, not, ◌&&◌, ◌==◌, nat_lt}
 use Rattle.algebras.specs.declared.counted.grade.Count.{Count}
 use Rattle.algebras.specs.declared.counted.grade.Count.TheVariants.{Half, Saturated}
 use Rattle.algebras.specs.declared.counted.grade.CountedGrade.{CountedGrade}

@@ -1,13 +1,11 @@
 -- The counted algebra: a grade says the start, the end and the smaller of the changes and the cap, and these decide every operation.
-use Rattle.std.specs.Prelude.{◌≡◌, ℕ, zero, suc, ◌+◌, ◌-◌, ◌*◌, ◌/◌, ◌%◌, ◌<◌, ◌≤◌, min, Bool, true, false, cond, not, ◌&&◌, ◌||◌, ◌⊎◌, List, [], ◌∷◌, ◌==◌, nat_eq, nat_le, nat_lt, refl}
-use Rattle.std.proofs.Common.{sym, ap, ◌∙◌, inl, inr, ⊎_elim, arith}
-use Rattle.std.specs.Bool.{beq}
+use Rattle.std.specs.Prelude.{◌≡◌, ℕ, zero, suc, ◌+◌, ◌-◌, ◌*◌, ◌/◌, ◌%◌, ◌<◌, ◌≤◌, min, Bool, true, false, cond, not, ◌&&◌, ◌||◌, ◌⊎◌, [], ◌∷◌, ◌==◌, nat_eq, nat_le, nat_lt, refl}
+use Rattle.std.proofs.Common.{sym, ap, ◌∙◌, ⊎_elim, arith}
 use mir.Val.{bool_byte}
-use Rattle.std.proofs.lemmas.Bool.{cases_lt, cases_Bool, lt-ltb, le-ltb, lt-leb, le-leb, eqb-true, eqb-false, eq-eqb, ne_eqb, cond-true, cond-false, and_parts, and_from}
+use Rattle.std.proofs.lemmas.Bool.{cases_lt, cases_Bool, lt-ltb, le-ltb, lt-leb, le-leb, eqb-true, eqb-false, eq-eqb, ne_eqb, and_from}
 use Rattle.algebras.specs.declared.counted.grade.Count.{Count}
 use Rattle.algebras.specs.declared.counted.grade.Count.TheVariants.{Half, Saturated}
 use Rattle.algebras.specs.declared.counted.grade.CountedGrade.{CountedGrade}
-use Rattle.algebras.specs.declared.verdict.Verdict.{Verdict}
 use Rattle.algebras.specs.declared.verdict.Verdict.TheVariants.{Steady, StaticHazard, CleanChange, DynamicHazard}
 use Rattle.algebras.specs.Transient.{Transient, flipped, end_of, complement, zero_word, one_word}
 use Rattle.algebras.specs.Sums.{sum2, product2, exclusive2}

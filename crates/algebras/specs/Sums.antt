@@ -1,5 +1,5 @@
 -- The sum, the product and the exclusive sum of a list of transients: what OR, AND and XOR make of them.
-use Rattle.std.specs.Prelude.{◌≡◌, ℕ, ◌+◌, ◌-◌, Bool, true, false, cond, not, List, [], ◌∷◌, map}
+use Rattle.std.specs.Prelude.{◌≡◌, ℕ, ◌+◌, ◌-◌, Bool, cond, List, [], ◌∷◌, map}
 use Rattle.algebras.specs.Letters.{or_of, and_of, xor_of, ones}
 use Rattle.algebras.specs.Transient.{Transient, end_of, complement, zero_word, one_word, is_zero, is_one}
 

@@ -1,5 +1,5 @@
 -- The lines of a listing, one after another, why every wire of a kept column has one, and that they list the longest histories.
-use Rattle.std.proofs.Common.{◌≡◌, ℕ, suc, ◌+◌, ◌<◌, ◌≤◌, min, Bool, true, false, cond, ltb, leb, List, [], ◌∷◌, ◌++◌, map, length, get_or, take, drop, Some, None, Option, Result, String, sym, refl, ap, ◌∙◌, subst, subst₂, ap₂, add-zero, zero-add, add-one, arith}
+use Rattle.std.proofs.Common.{◌≡◌, ℕ, suc, ◌+◌, ◌<◌, ◌≤◌, Bool, false, cond, List, [], ◌∷◌, ◌++◌, length, get_or, drop, Some, None, Option, Result, String, sym, refl, ap, ◌∙◌, subst, subst₂, ap₂, add-zero, zero-add, add-one, arith}
 use Rattle.std.proofs.lemmas.List.{append_assoc, append-nil, at_drop_more, at_drop_all}
 use Rattle.std.proofs.lemmas.Bool.{lt-leb, le-ltb}
 use Rattle.algebras.specs.Transient.{Transient, word, zero_word}

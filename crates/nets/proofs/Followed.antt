@@ -1,5 +1,5 @@
 -- To follow calls is to have their plain net and a kept column; so a call that keeps a column goes on following.
-use Rattle.std.proofs.Common.{◌≡◌, ℕ, ◌<◌, ◌≤◌, List, [], ◌∷◌, ◌++◌, map, length, get_or, take, Result, sym, refl, ap, ◌∙◌, subst, arith}
+use Rattle.std.proofs.Common.{◌≡◌, ℕ, ◌<◌, ◌≤◌, List, [], ◌∷◌, ◌++◌, map, length, take, Result, sym, refl, ap, ◌∙◌, subst, arith}
 use Rattle.std.proofs.lemmas.List.{ext_get_or, get_or-take, length-map, length-take, length-take-le}
 use Rattle.algebras.specs.declared.algebra.Algebra.{Ghosts}
 use Rattle.algebras.specs.Transient.{Transient, word, zero_word}

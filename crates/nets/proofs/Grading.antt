@@ -1,5 +1,5 @@
 -- Under the laws, the grade worked from grades is the grade of the transient.
-use Rattle.std.proofs.Common.{◌≡◌, ℕ, zero, suc, ◌+◌, ◌<◌, ◌≤◌, List, [], ◌∷◌, ◌++◌, map, length, get_or, take, set, sym, refl, ap, ◌∙◌, arith}
+use Rattle.std.proofs.Common.{◌≡◌, ℕ, zero, suc, ◌<◌, List, [], ◌∷◌, ◌++◌, map, length, get_or, take, set, sym, refl, ap, ◌∙◌, arith}
 use Rattle.std.proofs.lemmas.List.{get_or-take, map_push, length_push, take_more_set}
 use Rattle.algebras.specs.declared.algebra.Algebra.{Ghosts}
 use Rattle.algebras.specs.declared.kind.Kind.{Kind}
@@ -10,8 +10,8 @@ use Rattle.algebras.specs.Transient.{Transient, complement, zero_word}
 use Rattle.algebras.specs.SumsLemmas.{sums_of_transients}
 use Rattle.nets.proofs.Wiring.{transients_push}
 use Rattle.nets.specs.Wires.{Plain, input, gate, Below, Within}
-use Rattle.nets.specs.Transients.{transient_after, transients_after, transients, transient}
-use Rattle.nets.specs.Working.{joins, gives, gate_grade, entry, entries, worked, Kept}
+use Rattle.nets.specs.Transients.{transient_after, transients, transient}
+use Rattle.nets.specs.Working.{gate_grade, entry, entries, worked, Kept}
 
 -- What the laws of an algebra say of its operations on grades.
 pub record Lawful {X G : Type 0} (L : Ghosts X G) (a : X) : Type 0 where

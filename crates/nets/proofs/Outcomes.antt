@@ -1,5 +1,5 @@
 -- Reading record after record: what one record does, and what is left to read.
-use Rattle.std.proofs.Common.{◌≡◌, ℕ, zero, suc, ◌+◌, ◌-◌, ◌<◌, ◌≤◌, Bool, true, false, cond, not, ◌||◌, eqb, ltb, leb, ◌⊎◌, List, [], ◌∷◌, ◌++◌, map, length, get_or, take, drop, set, is_some, Some, None, Ok, Err, Option, unwrap_or, sym, refl, ap, ◌∙◌, inl, inr, ⊎_elim, add-one, arith}
+use Rattle.std.proofs.Common.{◌≡◌, ℕ, zero, suc, ◌+◌, ◌-◌, ◌<◌, ◌≤◌, Bool, true, false, cond, not, eqb, ltb, leb, ◌⊎◌, List, [], ◌∷◌, ◌++◌, map, length, get_or, take, drop, set, is_some, Some, None, Ok, Err, Option, unwrap_or, sym, refl, ap, ◌∙◌, inl, inr, ⊎_elim, add-one, arith}
 use Rattle.std.proofs.lemmas.List.{take_rest, length_push, length-set, drop_all}
 use Rattle.std.proofs.lemmas.Bool.{cases_Bool, eqb-true, leb-false, ltb-false}
 use Rattle.std.specs.Option.{option_map}
@@ -9,10 +9,10 @@ use Rattle.algebras.specs.Letters.{or_of}
 use Rattle.nets.specs.declared.fault.NetFault.{NetFault}
 use Rattle.nets.specs.declared.fault.NetFault.TheVariants.{BadStart, Full, ShortColumn, BadKind, BadPinCount, HighPin}
 use Rattle.nets.specs.declared.fault.Reason.{Reason}
-use Rattle.nets.specs.declared.fault.Reason.TheVariants.{UnknownKind, CutShort, Refused}
+use Rattle.nets.specs.declared.fault.Reason.TheVariants.{UnknownKind, CutShort}
 use Rattle.nets.specs.Faults.{net_fault_number, settled}
 use Rattle.nets.specs.Placing.{Request, ask_input, ask_gate, count_allowed, refusal, asked}
-use Rattle.nets.specs.Records.{at_place, body_size, carried, column_reading, first_high, known, misread, or_else, Outcome, pin_of, pins_asked, reading, reason_at, reason_number, reason_of, record_length, request_at, request_of, search_high, stopped}
+use Rattle.nets.specs.Records.{at_place, body_size, carried, column_reading, first_high, known, misread, or_else, Outcome, pin_of, pins_asked, reading, reason_number, reason_of, record_length, request_at, request_of, search_high, stopped}
 use Rattle.nets.specs.Wires.{Plain}
 use Rattle.nets.specs.Working.{worked}
 use Rattle.nets.proofs.Placements.{settled_passed, settled_refused}

@@ -1,14 +1,14 @@
 -- What placing keeps: lower pins, and columns of grades.
-use Rattle.std.proofs.Common.{◌≡◌, ℕ, ◌+◌, ◌<◌, ◌≤◌, Bool, true, false, cond, ltb, leb, ◌⊎◌, List, [], ◌∷◌, ◌++◌, map, length, get_or, take, set, Some, None, Ok, Err, Option, Result, sym, refl, ap, ◌∙◌, subst, inl, inr, ⊎_elim, arith}
-use Rattle.std.proofs.lemmas.List.{length-map, length_push, map_push, get_or_append_left, get_or_push}
-use Rattle.std.proofs.lemmas.Bool.{cases_lt, leb-false, le-ltb}
+use Rattle.std.proofs.Common.{◌≡◌, ℕ, ◌<◌, ◌≤◌, Bool, true, false, cond, ltb, leb, List, [], ◌∷◌, ◌++◌, map, Some, None, Ok, Err, Option, sym, refl, ap, ◌∙◌, arith}
+use Rattle.std.proofs.lemmas.List.{map_push}
+use Rattle.std.proofs.lemmas.Bool.{leb-false, le-ltb}
 use Rattle.nets.specs.declared.fault.NetFault.{NetFault}
 use Rattle.nets.specs.declared.fault.NetFault.TheVariants.{NoSuchWire, BadStart, Full, ShortColumn}
 use Rattle.nets.specs.Placing.{Request, room_checks, request_checks, refusal, question_checks}
 use Rattle.nets.specs.declared.told.Told.{Told}
 use Rattle.nets.specs.declared.wire.Wire.{Wire}
 use Rattle.nets.specs.Faults.{Check, first_fault, unless, settled}
-use Rattle.nets.specs.Wires.{Plain, input, gate, pins_of, Below, Within, Lower}
+use Rattle.nets.specs.Wires.{Plain, input, gate, pins_of, Below, Within}
 use Rattle.nets.specs.Tables.{plain}
 
 -- A wire within n has pins below n.

@@ -1,5 +1,5 @@
 -- Playing calls one after another: what one call does to what is left, and what stands at the end.
-use Rattle.std.proofs.Common.{◌≡◌, ℕ, ◌+◌, ◌<◌, ◌≤◌, List, [], ◌∷◌, ◌++◌, map, length, get_or, take, drop, Some, None, Option, sym, refl, ap, ◌∙◌, subst, ap₂, subst₂}
+use Rattle.std.proofs.Common.{◌≡◌, ℕ, ◌+◌, ◌<◌, ◌≤◌, List, [], ◌∷◌, ◌++◌, length, get_or, take, drop, Some, None, Option, sym, refl, ap, ◌∙◌, subst, ap₂, subst₂}
 use Rattle.std.proofs.lemmas.List.{append_assoc, append-nil, at_drop_all, at_drop_more, map_more, take_all}
 use Rattle.algebras.specs.declared.algebra.Algebra.{Ghosts}
 use Rattle.algebras.specs.Transient.{Transient}
@@ -14,7 +14,7 @@ use Rattle.nets.specs.Faults.{unless}
 use Rattle.nets.specs.Following.{Follows, LooksUpLongest}
 use Rattle.nets.specs.Nets.{ColumnKept, net_wires}
 use Rattle.nets.specs.Wires.{Plain, Lower}
-use Rattle.nets.proofs.Followed.{followed, looks_up_follows}
+use Rattle.nets.proofs.Followed.{looks_up_follows}
 use Rattle.nets.proofs.Grading.{standing_kept}
 use Rattle.nets.proofs.LongestHistories.{longest_in_turn}
 use Rattle.nets.proofs.Placements.{asked_stands}

@@ -1,5 +1,5 @@
 -- Records that were written read back as the wires that they were written from.
-use Rattle.std.proofs.Common.{◌≡◌, ℕ, zero, suc, ◌+◌, ◌-◌, ◌*◌, ◌/◌, ◌%◌, ◌<◌, ◌≤◌, Bool, true, false, cond, ◌||◌, eqb, leb, List, [], ◌∷◌, ◌++◌, map, length, get_or, take, drop, is_some, Some, None, Ok, Option, unwrap_or, sym, refl, ap, ◌∙◌, subst, arith}
+use Rattle.std.proofs.Common.{◌≡◌, ℕ, suc, ◌+◌, ◌-◌, ◌*◌, ◌/◌, ◌%◌, ◌<◌, ◌≤◌, Bool, true, false, cond, ◌||◌, leb, List, [], ◌∷◌, ◌++◌, map, length, get_or, take, drop, is_some, Some, None, Ok, Option, unwrap_or, sym, refl, ap, ◌∙◌, subst, arith}
 use Rattle.std.proofs.lemmas.List.{append_assoc, append-nil, drop_at, get_or_at, length-append, length_push, take_at}
 use Rattle.std.proofs.lemmas.Bool.{lt-leb, ne_eqb}
 use Rattle.algebras.specs.declared.kind.Kind.{Kind}
@@ -8,9 +8,9 @@ use Rattle.algebras.specs.Kinds.{kind_number, kind_of, pins_allowed}
 use Rattle.algebras.specs.Letters.{or_of}
 use Rattle.nets.specs.declared.fault.NetFault.TheVariants.{Full, ShortColumn}
 use Rattle.nets.specs.Faults.{first_fault}
-use Rattle.nets.specs.Placing.{Request, ask_input, ask_gate, asked, refusal, request_checks, room_checks}
-use Rattle.nets.specs.Records.{Outcome, body_size, is_input, known, misread, pins_in, reading, reason_of, record_length, request_of}
-use Rattle.nets.specs.Wires.{Plain, input, gate, Below, Fitting, Lower, fits, pins_of, wire_at}
+use Rattle.nets.specs.Placing.{Request, ask_input, ask_gate, asked, refusal, request_checks}
+use Rattle.nets.specs.Records.{body_size, is_input, known, misread, pins_in, reading, record_length, request_of}
+use Rattle.nets.specs.Wires.{Plain, input, gate, Below, Fitting, Lower, fits, pins_of}
 use Rattle.nets.specs.Writing.{ReadsBack, answer_of_writing, buffer_after_writing, gate_byte, pin_bytes, record_of, records_of, start_byte, writing_refusal, written_over}
 use Rattle.nets.proofs.Outcomes.{reading_goes_on}
 use Rattle.nets.proofs.Pinning.{allowed, gate_passes}

@@ -1,10 +1,9 @@
 -- The transients of a plain net, wire by wire, and the starts of its wires.
-use Rattle.std.proofs.Common.{◌≡◌, ℕ, zero, suc, ◌+◌, ◌<◌, ◌≤◌, Bool, true, false, leb, List, [], ◌∷◌, ◌++◌, map, length, get_or, take, drop, sym, refl, ap, ◌∙◌, subst, inl, inr, arith}
+use Rattle.std.proofs.Common.{◌≡◌, ℕ, zero, suc, ◌+◌, ◌<◌, ◌≤◌, Bool, true, false, List, [], ◌∷◌, ◌++◌, map, length, get_or, take, drop, sym, refl, ap, ◌∙◌, subst, inl, inr, arith}
 use Rattle.std.proofs.lemmas.List.{append-nil, append_assoc, map_push, length_push, length-take-le, take-append-drop, take_at, drop_more, get_or_append_left, get_or_at, get_or_past, get_or_push, get_or-take}
-use Rattle.std.proofs.lemmas.Bool.{cases_eq, cases_lt, leb-false, or_parts}
+use Rattle.std.proofs.lemmas.Bool.{cases_eq, cases_lt}
 use Rattle.algebras.specs.Kinds.{gate_function, gate_transient}
 use Rattle.algebras.specs.Sums.{starts}
-use Rattle.algebras.specs.Letters.{or_of}
 use Rattle.algebras.specs.Transient.{Transient, zero_word}
 use Rattle.algebras.proofs.EveryKind.{gate_start}
 use Rattle.nets.specs.Wires.{Plain, input, gate, wire_at, pins_of, Lower, fits, Fitting}

@@ -1,5 +1,5 @@
 -- Questions about a wire: in which order they are checked, and what they answer.
-use Rattle.std.specs.Prelude.{ℕ, Bool, List, length, Result}
+use Rattle.std.specs.Prelude.{ℕ, List, length, Result}
 use Rattle.algebras.specs.Transient.{Transient, end_of}
 use Rattle.algebras.specs.Verdicts.{verdict_of}
 use Rattle.algebras.specs.declared.algebra.Algebra.{Ghosts}

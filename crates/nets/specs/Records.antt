@@ -1,5 +1,5 @@
 -- Netlist records: a byte of kind, then a body whose length the kind fixes; and reading them onto a net.
-use Rattle.std.specs.Prelude.{ℕ, zero, suc, ◌+◌, ◌*◌, ◌/◌, ◌%◌, Bool, true, false, cond, not, ◌||◌, leb, List, [], ◌∷◌, ◌++◌, map, length, take, drop, is_some, Some, None, Ok, Err, Option, Result, ◌==◌, nat_le, nat_lt, slice_index, slice_set}
+use Rattle.std.specs.Prelude.{ℕ, zero, suc, ◌+◌, ◌*◌, ◌/◌, ◌%◌, Bool, cond, not, ◌||◌, leb, List, [], ◌∷◌, ◌++◌, map, length, take, drop, is_some, Some, None, Ok, Err, Option, Result, ◌==◌, nat_le, nat_lt, slice_index, slice_set}
 use Rattle.algebras.specs.declared.algebra.Algebra.{Ghosts}
 use Rattle.algebras.specs.Kinds.{kind_of}
 use Rattle.algebras.specs.Letters.{or_of}
@@ -8,8 +8,8 @@ use Rattle.nets.specs.declared.fault.Reason.{Reason}
 use Rattle.nets.specs.declared.fault.Reason.TheVariants.{UnknownKind, CutShort, Refused}
 use Rattle.nets.specs.declared.fault.ReadFault.{ReadFault}
 use Rattle.nets.specs.declared.fault.Layer.{Layer}
-use Rattle.nets.specs.declared.fault.Layer.TheVariants.{Input, Record, Algebra, Net}
-use Rattle.nets.specs.Faults.{net_fault_number, unless, settled}
+use Rattle.nets.specs.declared.fault.Layer.TheVariants.{Record, Net}
+use Rattle.nets.specs.Faults.{net_fault_number}
 use Rattle.nets.specs.Placing.{Request, ask_input, ask_gate, refusal, asked}
 use Rattle.nets.specs.Wires.{Plain}
 use Rattle.nets.specs.Working.{worked}

@@ -1,5 +1,5 @@
 -- The plain net: a list of inputs with drives and gates with kind and pins.
-use Rattle.std.specs.Prelude.{◌≡◌, ℕ, ◌<◌, Bool, true, false, List, [], ◌∷◌, length, slice_index, slice_index_or}
+use Rattle.std.specs.Prelude.{◌≡◌, ℕ, ◌<◌, Bool, true, false, List, [], length, slice_index, slice_index_or}
 use Rattle.algebras.specs.declared.kind.Kind.{Kind}
 use Rattle.algebras.specs.Kinds.{pins_allowed}
 

@@ -1,4 +1,4 @@
-use Rattle.std.proofs.Common.{◌≡◌, length, ap, ◌∙◌, arith, rules}
+use Rattle.std.proofs.Common.{◌≡◌, length, rules}
 use Rattle.std.proofs.lemmas.List.{take_rest}
 use Rattle.listing.proofs.Lines.{input_listed, records_input}
 use Rattle.listing.proofs.list.input_text.Goals as goal

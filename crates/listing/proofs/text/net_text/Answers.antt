@@ -1,4 +1,4 @@
-use Rattle.std.proofs.Common.{◌≡◌, ◌<◌, ◌≤◌, ◌++◌, length, string_bytes, sym, ap, ◌∙◌, arith}
+use Rattle.std.proofs.Common.{◌++◌, string_bytes, ap, ◌∙◌, arith}
 use Rattle.nets.specs.Nets.{net_wires}
 use Rattle.nets.specs.Transients.{transients}
 use Rattle.nets.proofs.Wiring.{length_transients}

@@ -1,4 +1,4 @@
-use Rattle.std.proofs.Common.{◌≡◌, sym, ap, ◌∙◌, rules}
+use Rattle.std.proofs.Common.{◌≡◌, ap, ◌∙◌, rules}
 use Rattle.algebras.specs.Counted.{count_of}
 use Rattle.algebras.specs.Counts.{grade_count}
 use Rattle.algebras.proofs.counted.Counted.count.Goals as goal

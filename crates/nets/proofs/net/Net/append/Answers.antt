@@ -1,4 +1,4 @@
-use Rattle.std.proofs.Common.{◌≡◌, length, set, vec_items, vec_len, vec_capacity, sym, refl, ap, ◌∙◌, subst, ap₂, subst₂, arith}
+use Rattle.std.proofs.Common.{set, vec_items, sym, refl, ◌∙◌, subst, ap₂, subst₂, arith}
 use Rattle.std.proofs.lemmas.List.{length-map}
 use Rattle.nets.specs.Wires.{Lower, Fitting}
 use Rattle.nets.specs.Tables.{plain}

@@ -1,4 +1,4 @@
-use Rattle.std.proofs.Common.{◌≡◌, ℕ, ◌+◌, ◌-◌, ◌≤◌, cond, eqb, length, take, drop, set, Err, unwrap_or, sym, refl, ap, ◌∙◌, arith}
+use Rattle.std.proofs.Common.{◌≡◌, ℕ, ◌+◌, ◌-◌, ◌≤◌, cond, eqb, length, take, drop, set, Err, unwrap_or, sym, ap, ◌∙◌, arith}
 use Rattle.nets.specs.declared.fault.Reason.{Reason}
 use Rattle.nets.specs.declared.fault.ReadFault.{ReadFault}
 use Rattle.nets.specs.Faults.{settled}

@@ -1,4 +1,4 @@
-use Rattle.std.proofs.Common.{◌≡◌, List, map, length, vec_items, sym, ap, ◌∙◌, arith}
+use Rattle.std.proofs.Common.{List, map, length, vec_items, sym, ap, ◌∙◌, arith}
 use Rattle.std.proofs.lemmas.List.{length-map}
 use Rattle.nets.specs.Nets.{net_wires}
 use Rattle.nets.specs.Wires.{Plain}

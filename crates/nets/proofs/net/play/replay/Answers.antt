@@ -1,10 +1,9 @@
-use Rattle.std.proofs.Common.{◌≡◌, ℕ, ◌<◌, List, [], ◌∷◌, ◌++◌, length, get_or, take, drop, vec_items, sym, refl, ap, ◌∙◌, subst, ap₂, arith}
+use Rattle.std.proofs.Common.{ℕ, ◌<◌, List, [], ◌∷◌, ◌++◌, length, get_or, take, vec_items, ap, ◌∙◌, subst, arith}
 use Rattle.nets.specs.declared.call.Answer.{Answer}
 use Rattle.nets.specs.declared.call.Call.TheVariants.{PlaceInput}
-use Rattle.nets.specs.Calls.{PlainCall, answer_step, answers_after, column_after, column_step, plain_call, plain_calls, plain_step}
+use Rattle.nets.specs.Calls.{PlainCall, answer_step, column_after, column_step, plain_call, plain_calls, plain_step}
 use Rattle.nets.specs.Following.{Follows}
 use Rattle.nets.specs.Nets.{net_wires}
-use Rattle.nets.specs.Wires.{Plain}
 use Rattle.nets.proofs.Playing.{answers_turn, column_turn, calls_turn, answers_end, column_end, calls_end, looks_up_played, in_turn_played}
 use Rattle.nets.proofs.net.play.replay.Goals as goal
 

@@ -1,4 +1,4 @@
-use Rattle.std.proofs.Common.{◌≡◌, ◌+◌, ◌≤◌, length, drop}
+use Rattle.std.proofs.Common.{◌≡◌, ◌+◌, length, drop}
 use Rattle.nets.specs.Writing.{pin_bytes, written_over}
 use Rattle.nets.proofs.net.write.write_pins.Given as goal
 

@@ -1,4 +1,4 @@
-use Rattle.std.proofs.Common.{sym, ◌∙◌}
+use Rattle.std.proofs.Common.{sym}
 use Rattle.nets.proofs.Pinning.{gate_passes}
 use Rattle.nets.proofs.wire.Gate.asked.Goals as goal
 
