@@ -1,4 +1,5 @@
 //! Trials of nets: tests alone, against a machine that plays small nets in every order of arrivals.
+
 #![tactic(auto)]
 
 #[cfg(test)]
