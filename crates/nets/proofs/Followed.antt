@@ -15,7 +15,7 @@ use Rattle.nets.specs.Placing.{answered}
 use Rattle.nets.specs.Wires.{Plain, Lower}
 use Rattle.nets.specs.Transients.{transient, transients}
 use Rattle.nets.specs.Working.{Kept, entry}
-use Rattle.nets.proofs.Grading.{getD_images, standing_kept}
+use Rattle.nets.proofs.Grading.{get_or_images, standing_kept}
 use Rattle.nets.proofs.LongestHistories.{longest_transient, transient_longest}
 use Rattle.nets.proofs.Wiring.{length_transients}
 
@@ -41,7 +41,7 @@ kept_entries L a ws column long entries =
     ext_get_or (L.grade a zero_word) (take (length ws) column) (map (L.grade a) (transients ws)) (few ∙ sym grades)
     (λ w h.
     let l : w < length ws = omega arith in
-    get_or-take (length ws) column w (L.grade a zero_word) l ∙ entries w l ∙ sym (getD_images (L.grade a) (transients ws) w zero_word))
+    get_or-take (length ws) column w (L.grade a zero_word) l ∙ entries w l ∙ sym (get_or_images (L.grade a) (transients ws) w zero_word))
 
 -- To follow calls is to have their plain net and a kept column.
 pub follow : {X G : Type 0} (L : Ghosts X G) (n : Net X G L) (column : List G) (calls : List PlainCall)

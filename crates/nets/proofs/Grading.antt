@@ -27,10 +27,10 @@ joined_first x [] = refl
 joined_first x (y ∷ ys) = joined_first x ys
 
 -- An element of a list of images.
-pub getD_images : {X Y : Type 0} (f : X → Y) (xs : List X) (i : ℕ) (d : X) → get_or (map f xs) i (f d) ≡ f (get_or xs i d)
-getD_images f [] i d = refl
-getD_images f (x ∷ xs) zero d = refl
-getD_images f (x ∷ xs) (suc i) d = getD_images f xs i d
+pub get_or_images : {X Y : Type 0} (f : X → Y) (xs : List X) (i : ℕ) (d : X) → get_or (map f xs) i (f d) ≡ f (get_or xs i d)
+get_or_images f [] i d = refl
+get_or_images f (x ∷ xs) zero d = refl
+get_or_images f (x ∷ xs) (suc i) d = get_or_images f xs i d
 
 -- Joining grades gives the grade of the joined transients.
 pub joined_grades : {G : Type 0} (grade : Transient → G) (op : G → G → G) (two : Transient → Transient → Transient)
@@ -72,7 +72,7 @@ module _ {X G : Type 0} (L : Ghosts X G) (a : X) (n : ℕ) (column : List G) (ts
   entry_kept w h =
       sym (get_or-take n column w (L.grade a zero_word) h)
       ∙ ap (λ (c : List G). get_or c w (L.grade a zero_word)) kept
-      ∙ getD_images (L.grade a) ts w zero_word
+      ∙ get_or_images (L.grade a) ts w zero_word
 
   -- The same for pins.
   pub entries_kept : (ps : List ℕ) → Below n ps → entries L a column ps ≡ map (L.grade a) (map (λ p. get_or ts p zero_word) ps)

@@ -1,5 +1,5 @@
 -- Reading records: what the bytes ask for, and why they are refused.
-use Rattle.std.proofs.Common.{◌≡◌, ℕ, zero, suc, ◌+◌, ◌-◌, ◌/◌, ◌<◌, ◌≤◌, Bool, true, false, cond, not, ◌||◌, ltb, leb, ◌⊎◌, List, [], ◌∷◌, map, length, get_or, take, drop, is_some, Some, None, sym, refl, ap, ◌∙◌, inl, inr, ⊎_elim, add-one, arith}
+use Rattle.std.proofs.Common.{◌≡◌, ℕ, zero, suc, ◌+◌, ◌-◌, ◌*◌, ◌/◌, ◌%◌, ◌<◌, ◌≤◌, Bool, true, false, cond, not, ◌||◌, ltb, leb, ◌⊎◌, List, [], ◌∷◌, map, length, get_or, take, drop, is_some, Some, None, sym, refl, ap, ◌∙◌, inl, inr, ⊎_elim, add-one, arith}
 use Rattle.std.proofs.lemmas.List.{get_or-take, get_or-drop, length-drop, take_rest, drop-drop}
 use Rattle.std.proofs.lemmas.Bool.{ne_eqb, le-ltb, lt-ltb, lt-leb}
 use Rattle.algebras.specs.Letters.{or_of}
@@ -7,7 +7,7 @@ use Rattle.nets.specs.declared.fault.NetFault.{NetFault}
 use Rattle.nets.specs.declared.fault.Reason.{Reason}
 use Rattle.nets.specs.declared.fault.Reason.TheVariants.{UnknownKind, CutShort, Refused}
 use Rattle.nets.specs.Placing.{Request, ask_input, ask_gate, refusal}
-use Rattle.nets.specs.Records.{known, body_size, pins_in, request_at, misread, carried, or_else, record_length, request_of, reason_of, pins_asked, first_high, search_high}
+use Rattle.nets.specs.Records.{known, is_input, body_size, pins_in, request_at, misread, carried, or_else, record_length, request_of, reason_of, pins_asked, first_high, search_high}
 use Rattle.nets.specs.Wires.{Plain}
 
 -- A kind byte is known where its length is answered.
@@ -63,9 +63,20 @@ record_admitted ws long bytes q read asks admitted =
     ∙ ap (λ r. carried (refusal (length ws) long r)) asks
     ∙ ap carried admitted
 
--- The pins of a gate's record.
+-- What an input's record and a gate's record have for pins.
+pub input_pins : (bytes : List ℕ) → get_or bytes 0 0 ≡ 1 → pins_asked (request_of bytes) ≡ []
+input_pins bytes kind = ap pins_asked (input_request bytes kind)
+
 pub gate_pins : (bytes : List ℕ) (size : ℕ) → (get_or bytes 0 0 ≡ 1 → ⊥) → record_length bytes ≡ size → pins_in (take (size - 1) (drop 1 bytes)) ≡ pins_asked (request_of bytes)
 gate_pins bytes size kind long = sym (ap pins_asked (gate_request bytes size kind long))
+
+-- A body has 30 bytes at most.
+pub body_small : (b : ℕ) → body_size b ≤ 30
+body_small b = go (is_input b)
+  where
+    go : (i : Bool) → cond i 2 (2 * (b % 16)) ≤ 30
+    go true = omega arith
+    go false = omega arith
 
 -- Bytes of a body are passed over.
 pub search_skips : (k n : ℕ) (bs : List ℕ) → search_high k n bs ≡ search_high 0 n (drop k bs)

@@ -94,15 +94,15 @@ transient_lower net lower w =
     ]
 
 -- The start at a place of transients.
-pub getD_starts : (ts : List Transient) (p : ℕ) → get_or (starts ts) p false ≡ (get_or ts p zero_word).start
-getD_starts [] p = refl
-getD_starts (t ∷ ts) zero = refl
-getD_starts (t ∷ ts) (suc p) = getD_starts ts p
+pub get_or_starts : (ts : List Transient) (p : ℕ) → get_or (starts ts) p false ≡ (get_or ts p zero_word).start
+get_or_starts [] p = refl
+get_or_starts (t ∷ ts) zero = refl
+get_or_starts (t ∷ ts) (suc p) = get_or_starts ts p
 
 -- The starts of several transients, by their places.
 pub starts_places : (ts : List Transient) (ps : List ℕ) → map (λ p. get_or (starts ts) p false) ps ≡ starts (map (λ p. get_or ts p zero_word) ps)
 starts_places ts [] = refl
-starts_places ts (p ∷ ps) = let h = getD_starts ts p in let t = starts_places ts ps in cc
+starts_places ts (p ∷ ps) = let h = get_or_starts ts p in let t = starts_places ts ps in cc
 
 -- A wire's start, from the starts of its pins, is that of its transient.
 pub value_start : (ts : List Transient) (p : Plain) → function_of p (map (λ q. get_or (starts ts) q false) (pins_of p)) ≡ (transient_after ts p).start
@@ -122,7 +122,11 @@ starts_after_transients ts (w ∷ ws) =
 -- The start of a wire is that of its transient.
 pub start_of_transient : (net : List Plain) (w : ℕ) → start_of net w ≡ (transient net w).start
 start_of_transient net w =
-    ap (λ (bs : List Bool). get_or bs w false) (starts_after_transients [] net) ∙ getD_starts (transients net) w
+    ap (λ (bs : List Bool). get_or bs w false) (starts_after_transients [] net) ∙ get_or_starts (transients net) w
+
+-- In a net without wires pins name lower wires.
+pub lower_none : Lower []
+lower_none w i l = absurd (omega arith)
 
 -- A net stays one whose gates have as many pins as their kinds allow where one wire more does.
 pub fitting_push : (net : List Plain) (p : Plain) → Fitting net → fits p ≡ true → Fitting (net ++ p ∷ [])

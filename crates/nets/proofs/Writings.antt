@@ -1,7 +1,7 @@
 -- Writing records one after another, and what stands in the buffer after them.
 use Rattle.std.proofs.Common.{◌≡◌, ℕ, suc, ◌+◌, ◌*◌, ◌/◌, ◌%◌, ◌<◌, ◌≤◌, Bool, cond, List, [], ◌∷◌, ◌++◌, map, length, get_or, drop, set, Some, None, sym, refl, ap, ◌∙◌, arith}
 use Rattle.std.proofs.lemmas.List.{append_assoc, at_drop_more, at_drop_all, length-append, length_push, length-set, length-take, set_at}
-use Rattle.std.proofs.lemmas.Bool.{le-ltb}
+use Rattle.std.proofs.lemmas.Bool.{le-ltb, lt-ltb}
 use Rattle.algebras.specs.declared.kind.Kind.{Kind}
 use Rattle.algebras.specs.declared.kind.Kind.TheVariants.{Buffer, Inverter, And, Or, Xor, Nand, Nor, Xnor}
 use Rattle.algebras.specs.Kinds.{kind_number}
@@ -124,3 +124,6 @@ pins_written_none ps i xs at past = at_drop_all (λ (qs : List ℕ). written_ove
 -- A buffer that is long enough is not refused, and a shorter one is.
 pub buffer_passes : (ws : List Plain) (long : ℕ) → length (records_of ws) ≤ long → writing_refusal ws long ≡ None
 buffer_passes ws long h = ap (λ (b : Bool). cond b (Some ShortBuffer) None) (le-ltb long (length (records_of ws)) h)
+
+pub buffer_refused : (ws : List Plain) (long : ℕ) → long < length (records_of ws) → writing_refusal ws long ≡ Some ShortBuffer
+buffer_refused ws long h = ap (λ (b : Bool). cond b (Some ShortBuffer) None) (lt-ltb long (length (records_of ws)) h)

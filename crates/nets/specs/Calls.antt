@@ -2,7 +2,7 @@
 use Rattle.std.specs.Prelude.{ℕ, List, [], ◌∷◌, map}
 use Rattle.algebras.specs.declared.algebra.Algebra.{Ghosts}
 use Rattle.nets.specs.declared.call.Answer.{Answer}
-use Rattle.nets.specs.declared.call.Answer.TheVariants.{Placed, Read as Was-read}
+use Rattle.nets.specs.declared.call.Answer.TheVariants.{Placed, Read as WasRead}
 use Rattle.nets.specs.declared.call.Call.{Call}
 use Rattle.nets.specs.declared.call.Call.TheVariants.{PlaceInput, PlaceGate, Read}
 use Rattle.nets.specs.Placing.{Request, ask_input, ask_gate, filled, place_answer, placed}
@@ -32,7 +32,7 @@ plain_of calls = plain_after [] calls
 -- What a call answers, and what calls answer, one after another.
 abbrev pub answer_step : List Plain → PlainCall → Answer
 answer_step ws (places long q) = Placed (place_answer ws long q)
-answer_step ws (reads_in long bytes) = Was-read (reading long 0 0 0 ws bytes).answer
+answer_step ws (reads_in long bytes) = WasRead (reading long 0 0 0 ws bytes).answer
 
 abbrev pub answers_after : List Plain → List PlainCall → List Answer
 answers_after ws [] = []

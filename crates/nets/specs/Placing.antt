@@ -8,7 +8,7 @@ use Rattle.algebras.specs.Kinds.{kind_of, pins_allowed}
 use Rattle.algebras.specs.Letters.{or_of}
 use Rattle.nets.specs.declared.fault.NetFault.{NetFault}
 use Rattle.nets.specs.declared.fault.NetFault.TheVariants.{NoSuchWire, BadStart, Full, ShortColumn, BadKind, BadPinCount, HighPin}
-use Rattle.nets.specs.declared.request.Request.{Request as Code-request}
+use Rattle.nets.specs.declared.request.Request.{Request as CodeRequest}
 use Rattle.nets.specs.declared.request.Request.TheVariants.{Input, Gate}
 use Rattle.nets.specs.declared.wire.Wire.{Wire}
 use Rattle.nets.specs.Faults.{Check, first_fault, unless, settled}
@@ -22,7 +22,7 @@ pub data Request : Type 0 where
   ask_gate : ℕ → List ℕ → Request
 
 -- What a request of the code asks for.
-abbrev pub plain_request : Code-request → Request
+abbrev pub plain_request : CodeRequest → Request
 plain_request (Input start changes) = ask_input start changes
 plain_request (Gate kind pins) = ask_gate kind pins.now
 
