@@ -11,8 +11,7 @@ pub(crate) enum Request<'a> {
 }
 
 impl<'a> Request<'a> {
-    // A request for an input. It is made here since the checker does not follow one that is made where it is handed on: it holds no
-    // reference, though a request may.
+    // A request for an input.
     pub(crate) fn input(start: u8, changes: u8) -> Request<'a>
         ensures { plain_request result ≡ ask_input start changes }
     {
