@@ -6,7 +6,7 @@ ghost use Rattle.algebras.specs.Counted.{counted_read, counted_complement, count
 ghost use Rattle.algebras.specs.Transient.{Transient, end_of};
 ghost use Rattle.algebras.specs.Verdicts.{verdict_of};
 ghost use Rattle.algebras.specs.Counts.{grade_stands, complement_grades, sum_grades, product_grades, exclusive_grades, read_apart, alike_parts};
-ghost use Rattle.std.proofs.Common.{rules, arith};
+ghost use Rattle.std.proofs.Common.{rules};
 
 use crate::algebra::Algebra;
 use crate::counted::Counted;
@@ -93,9 +93,9 @@ impl Algebra for Counted {
 
     ghost alikes = { λ a x y. counted_alike a.«cap» x y };
 
-    ghost zero_alone = { first_of (Prim.search rules, Prim.grind (arith, Self.row.coded.inj)) };
+    ghost zero_alone = { Prim.search rules };
 
-    ghost one_alone = { first_of (Prim.search rules, Prim.grind (arith, Self.row.coded.inj)) };
+    ghost one_alone = { Prim.search rules };
 
     ghost reads_grade = { λ a t. grade_stands a.«cap» t };
 
@@ -107,7 +107,7 @@ impl Algebra for Counted {
 
     ghost exclusives_grades = { λ a s t. exclusive_grades a.«cap» s t };
 
-    ghost alike_reads = { first_of (Prim.search rules, Prim.grind (arith, Self.row.coded.inj)) };
+    ghost alike_reads = { Prim.search rules };
 
     ghost reads_alike = { λ a x y e. alike_parts a.«cap» x y (read_apart a.«cap» x y e) };
 
