@@ -1,6 +1,6 @@
 //! The kinds of gate.
 
-ghost use Rattle.std.specs.Prelude.{◌≡◌};
+ghost use Rattle.std.specs.Prelude.{◌≡◌, MatchResult, Some, None};
 ghost use Rattle.algebras.specs.Kinds.{kind_number, kind_of, pins_allowed};
 
 /// A kind of gate, with its number.
@@ -16,31 +16,41 @@ pub enum Kind {
     Xnor = 8,
 }
 
-impl Kind {
-    /// The kind of a number, if there is one.
-    pub fn from_number(n: u8) -> Option<Kind>
-        ensures { result ≡ kind_of n }
-    {
-        match n {
-            1 => Some(Kind::Buffer),
-            2 => Some(Kind::Inverter),
-            3 => Some(Kind::And),
-            4 => Some(Kind::Or),
-            5 => Some(Kind::Xor),
-            6 => Some(Kind::Nand),
-            7 => Some(Kind::Nor),
-            8 => Some(Kind::Xnor),
-            _ => None,
+/// A number that is no kind's.
+#[derive(Clone, Copy, PartialEq, Eq, Debug)]
+pub struct NoKind;
+
+impl TryFrom<u8> for Kind {
+    type Error = NoKind;
+
+    ghost try_from_gives = { λ n r. MatchResult r (λ k. kind_of n ≡ Some k) (λ _. kind_of n ≡ None) };
+
+    /// The kind with this number, if there is one.
+    fn try_from(number: u8) -> Result<Kind, NoKind> {
+        match number {
+            1 => Ok(Kind::Buffer),
+            2 => Ok(Kind::Inverter),
+            3 => Ok(Kind::And),
+            4 => Ok(Kind::Or),
+            5 => Ok(Kind::Xor),
+            6 => Ok(Kind::Nand),
+            7 => Ok(Kind::Nor),
+            8 => Ok(Kind::Xnor),
+            _ => Err(NoKind),
         }
     }
+}
 
-    /// The number of this kind.
-    pub fn number(self) -> u8
-        ensures { result ≡ kind_number self }
-    {
-        self as u8
+impl From<Kind> for u8 {
+    ghost from_gives = { λ k n. n ≡ kind_number k };
+
+    /// The number of a kind.
+    fn from(kind: Kind) -> u8 {
+        kind as u8
     }
+}
 
+impl Kind {
     /// Whether a gate of this kind may have so many pins.
     pub fn admits(self, pins: usize) -> bool
         ensures { result ≡ pins_allowed self pins }

@@ -4,15 +4,11 @@ ghost use Rattle.algebras.specs.Sums.{SumsOfTransients};
 ghost use Rattle.algebras.specs.Transient.{TransientsAreWords};
 
 /// Transients, kept as start and changes, are the words whose neighbours differ.
-pub fn transients_are_words() -> u8
+pub fn transients_are_words()
     ensures { TransientsAreWords }
-{
-    0
-}
+{}
 
 /// Sums, products and exclusive sums are joined two by two, and follow their Boolean functions.
-pub fn sums_of_transients() -> u8
+pub fn sums_of_transients()
     ensures { SumsOfTransients }
-{
-    0
-}
+{}

@@ -33,11 +33,13 @@ impl Verdict {
             Verdict::DynamicHazard
         }
     }
+}
 
-    /// The number of this verdict.
-    pub fn number(self) -> u8
-        ensures { result ≡ verdict_number self }
-    {
-        self as u8
+impl From<Verdict> for u8 {
+    ghost from_gives = { λ v n. n ≡ verdict_number v };
+
+    /// The number of a verdict.
+    fn from(verdict: Verdict) -> u8 {
+        verdict as u8
     }
 }

@@ -14,12 +14,12 @@ use crate::counted::grade::{CapFault, Count, CountedGrade};
 use crate::telling::Telling;
 use crate::verdict::Verdict;
 
-impl CapFault {
-    /// The number of this refusal.
-    pub fn number(self) -> u8
-        ensures { result ≡ cap_fault_number self }
-    {
-        self as u8
+impl From<CapFault> for u8 {
+    ghost from_gives = { λ f n. n ≡ cap_fault_number f };
+
+    /// The number of a refusal.
+    fn from(fault: CapFault) -> u8 {
+        fault as u8
     }
 }
 
@@ -156,7 +156,7 @@ impl Algebra for Counted {
     }
 
     fn same(&self, x: CountedGrade, y: CountedGrade) -> bool {
-        x.start == y.start && x.end == y.end && self.count(x) == self.count(y)
+        self.read(x) == self.read(y)
     }
 }
 

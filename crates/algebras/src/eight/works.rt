@@ -113,7 +113,7 @@ impl Algebra for Eight {
     }
 
     fn same(&self, x: EightGrade, y: EightGrade) -> bool {
-        x.start == y.start && x.end == y.end && x.more == y.more
+        x == y
     }
 }
 

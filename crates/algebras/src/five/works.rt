@@ -41,12 +41,12 @@ const EXCLUSIVE_SUMS: [u8; 25] = [
     4, 4, 4, 4, 4, // exclusive sums with ½
 ];
 
-impl Symbol {
-    /// The code of this symbol.
-    pub fn code(self) -> u8
-        ensures { result ≡ symbol_code self }
-    {
-        self as u8
+impl From<Symbol> for u8 {
+    ghost from_gives = { λ s n. n ≡ symbol_code s };
+
+    /// The code of a symbol.
+    fn from(symbol: Symbol) -> u8 {
+        symbol as u8
     }
 }
 
@@ -69,7 +69,7 @@ impl Five {
     fn place(&self, x: FiveGrade, y: FiveGrade) -> usize
         ensures { result ≡ pair_place (symbol_of x) (symbol_of y) }
     {
-        5 * self.symbol(x).code() as usize + self.symbol(y).code() as usize
+        5 * usize::from(u8::from(self.symbol(x))) + usize::from(u8::from(self.symbol(y)))
     }
 }
 
@@ -117,19 +117,19 @@ impl Algebra for Five {
             (_, _) => Symbol::Half,
         };
         FiveGrade {
-            code: symbol.code(),
+            code: symbol.into(),
         }
     }
 
     fn read(&self, x: FiveGrade) -> FiveGrade {
         FiveGrade {
-            code: self.symbol(x).code(),
+            code: self.symbol(x).into(),
         }
     }
 
     fn complement(&self, x: FiveGrade) -> FiveGrade {
         FiveGrade {
-            code: COMPLEMENTS[self.symbol(x).code() as usize],
+            code: COMPLEMENTS[usize::from(u8::from(self.symbol(x)))],
         }
     }
 
@@ -152,6 +152,6 @@ impl Algebra for Five {
     }
 
     fn same(&self, x: FiveGrade, y: FiveGrade) -> bool {
-        self.symbol(x).code() == self.symbol(y).code()
+        self.symbol(x) == self.symbol(y)
     }
 }
