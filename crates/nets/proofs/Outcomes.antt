@@ -196,48 +196,41 @@ module _ {X G : Type 0} (L : Ghosts X G) (a : X) where
       admitted
       ∙ column_skips (body_size b) (ws ++ asked (request_at b bs) ∷ []) (set column (length ws) (worked L a column (asked (request_at b bs)))) bs
 
--- One turn of reading, at offset `at` with so many records read: `rest` are the bytes from there on.
-module _ {X G : Type 0} (L : Ghosts X G) (a : X) (bytes : List ℕ) (at count : ℕ) (ws : List Plain) (column : List G) (result : Outcome) (entries : List G) (high : Option ℕ)
-    (within : at < length bytes) (left : reading (length column) at 0 count ws (drop at bytes) ≡ result) (left_column : column_reading L a 0 ws column (drop at bytes) ≡ entries)
-    (search : search_high 0 (length ws) (drop at bytes) ≡ high) where
-  abbrev rest : List ℕ
-  rest = take (length bytes - at) (drop at bytes)
-
-  some_rest : 0 < length rest
-  some_rest = let h = rest_length bytes at in omega arith
-
+-- One turn of reading at offset `at`, where `rest` are the bytes from there on and so many records are read.
+module _ {X G : Type 0} (L : Ghosts X G) (a : X) (rest : List ℕ) (at count : ℕ) (ws : List Plain) (column : List G) (result : Outcome) (entries : List G) (high : Option ℕ)
+    (some : 0 < length rest) (left : reading (length column) at 0 count ws rest ≡ result) (left_column : column_reading L a 0 ws column rest ≡ entries)
+    (search : search_high 0 (length ws) rest ≡ high) where
   -- A record is placed, and the reading goes on after it.
   pub turn_placed : (size : ℕ) (ws' : List Plain) (column' : List G) → reason_of ws (length column) rest ≡ None → record_length rest ≡ size
       → ws' ≡ settled (reason_of ws (length column) rest) (ws ++ asked (request_of rest) ∷ []) ws
       → column' ≡ settled (reason_of ws (length column) rest) (set column (length ws) (worked L a column (asked (request_of rest)))) column
-      → (at + size ≤ length bytes) × (1 ≤ size)
-      × (reading (length column') (at + size) 0 (count + 1) ws' (drop (at + size) bytes) ≡ result)
-      × (column_reading L a 0 ws' column' (drop (at + size) bytes) ≡ entries)
-      × (search_high 0 (length ws') (drop (at + size) bytes) ≡ high)
+      → (size ≤ length rest) × (1 ≤ size)
+      × (reading (length column') (at + size) 0 (count + 1) ws' (drop size rest) ≡ result)
+      × (column_reading L a 0 ws' column' (drop size rest) ≡ entries)
+      × (search_high 0 (length ws') (drop size rest) ≡ high)
   turn_placed size ws' column' placed long wires filled =
-      let h = rest_length bytes at in
-      let whole = placed_whole ws (length column) rest some_rest placed in
+      let whole = placed_whole ws (length column) rest some placed in
       let ws_is = wires ∙ sym (settled_passed (reason_of ws (length column) rest) (ws ++ asked (request_of rest) ∷ []) ws placed) in
       let column_is = filled ∙ sym (settled_passed (reason_of ws (length column) rest) (set column (length ws) (worked L a column (asked (request_of rest)))) column placed) in
       let long_is = ap length column_is ∙ length-set column (length ws) (worked L a column (asked (request_of rest))) in
-      let bytes_are = sym (rest_drop bytes at size) ∙ ap (λ (n : ℕ). drop n rest) (sym long) in
-      let on = reading_goes_on (length column) at count ws rest some_rest placed in
-      let column_on = column_goes_on L a ws column rest some_rest placed in
-      let past = search_past ws (length column) rest some_rest placed in (
+      let bytes_are = ap (λ (n : ℕ). drop n rest) (sym long) in
+      let on = reading_goes_on (length column) at count ws rest some placed in
+      let column_on = column_goes_on L a ws column rest some placed in
+      let past = search_past ws (length column) rest some placed in (
         omega arith,
         omega arith,
-        ap (λ (n : ℕ). reading n (at + size) 0 (count + 1) ws' (drop (at + size) bytes)) long_is
-            ∙ ap (λ (n : ℕ). reading (length column) n 0 (count + 1) ws' (drop (at + size) bytes)) (ap (λ (n : ℕ). at + n) (sym long))
-            ∙ ap (λ v. reading (length column) (at + record_length rest) 0 (count + 1) v (drop (at + size) bytes)) ws_is
+        ap (λ (n : ℕ). reading n (at + size) 0 (count + 1) ws' (drop size rest)) long_is
+            ∙ ap (λ (n : ℕ). reading (length column) n 0 (count + 1) ws' (drop size rest)) (ap (λ (n : ℕ). at + n) (sym long))
+            ∙ ap (λ v. reading (length column) (at + record_length rest) 0 (count + 1) v (drop size rest)) ws_is
             ∙ ap (reading (length column) (at + record_length rest) 0 (count + 1) (ws ++ asked (request_of rest) ∷ [])) bytes_are
-            ∙ sym on ∙ ap (reading (length column) at 0 count ws) (take_rest bytes at) ∙ left,
-        ap (λ v. column_reading L a 0 v column' (drop (at + size) bytes)) ws_is
-            ∙ ap (λ v. column_reading L a 0 (ws ++ asked (request_of rest) ∷ []) v (drop (at + size) bytes)) column_is
+            ∙ sym on ∙ left,
+        ap (λ v. column_reading L a 0 v column' (drop size rest)) ws_is
+            ∙ ap (λ v. column_reading L a 0 (ws ++ asked (request_of rest) ∷ []) v (drop size rest)) column_is
             ∙ ap (column_reading L a 0 (ws ++ asked (request_of rest) ∷ []) (set column (length ws) (worked L a column (asked (request_of rest))))) bytes_are
-            ∙ sym column_on ∙ ap (column_reading L a 0 ws column) (take_rest bytes at) ∙ left_column,
-        ap (λ (n : ℕ). search_high 0 n (drop (at + size) bytes)) (ap length ws_is ∙ length_push ws (asked (request_of rest)))
+            ∙ sym column_on ∙ left_column,
+        ap (λ (n : ℕ). search_high 0 n (drop size rest)) (ap length ws_is ∙ length_push ws (asked (request_of rest)))
             ∙ ap (search_high 0 (length ws + 1)) bytes_are
-            ∙ sym past ∙ ap (search_high 0 (length ws)) (take_rest bytes at) ∙ search,
+            ∙ sym past ∙ search,
       )
 
   -- A record is refused, and the reading ends.
@@ -249,9 +242,9 @@ module _ {X G : Type 0} (L : Ghosts X G) (a : X) (bytes : List ℕ) (at count : 
   turn_refused r ws' column' pin refused wires filled pin_is =
       let ws_is = wires ∙ sym (settled_refused (reason_of ws (length column) rest) (ws ++ asked (request_of rest) ∷ []) ws r refused) in
       let column_is = filled ∙ sym (settled_refused (reason_of ws (length column) rest) (set column (length ws) (worked L a column (asked (request_of rest)))) column r refused) in
-      let ends = sym (reading_ends (length column) at count ws rest r some_rest refused) ∙ ap (reading (length column) at 0 count ws) (take_rest bytes at) ∙ left in
-      let column_end = sym (column_ends L a ws column rest r some_rest refused) ∙ ap (column_reading L a 0 ws column) (take_rest bytes at) ∙ left_column in
-      let found = pin_is ∙ pin_found ws (length column) rest r high some_rest refused (sym search ∙ ap (search_high 0 (length ws)) (sym (take_rest bytes at))) in (
+      let ends = sym (reading_ends (length column) at count ws rest r some refused) ∙ left in
+      let column_end = sym (column_ends L a ws column rest r some refused) ∙ left_column in
+      let found = pin_is ∙ pin_found ws (length column) rest r high some refused (sym search) in (
         ap (λ (n : ℕ). Err (at_place r at (length ws') n)) found
             ∙ ap (λ v. Err (at_place r at (length v) (pin_of r (length ws) (request_of rest)))) ws_is
             ∙ ap (λ (o : Outcome). o.answer) ends,
@@ -260,10 +253,6 @@ module _ {X G : Type 0} (L : Ghosts X G) (a : X) (bytes : List ℕ) (at count : 
       )
 
 -- Nothing is left.
-pub turn_none : (long : ℕ) (bytes : List ℕ) (at count : ℕ) (ws : List Plain) (result : Outcome)
-    → reading long at 0 count ws (drop at bytes) ≡ result → length bytes ≤ at → record { wires = ws; answer = Ok count } ≡ result
-turn_none long bytes at count ws result left past = sym (ap (reading long at 0 count ws) (drop_all at bytes past)) ∙ left
-
-pub column_none : {X G : Type 0} (L : Ghosts X G) (a : X) (bytes : List ℕ) (at : ℕ) (ws : List Plain) (column entries : List G)
-    → column_reading L a 0 ws column (drop at bytes) ≡ entries → length bytes ≤ at → column ≡ entries
-column_none L a bytes at ws column entries left past = sym (ap (column_reading L a 0 ws column) (drop_all at bytes past)) ∙ left
+pub turn_none : (long at count : ℕ) (ws : List Plain) (rest : List ℕ) (result : Outcome) → reading long at 0 count ws rest ≡ result → length rest ≡ 0 → ws ≡ result.wires
+turn_none long at count ws [] result left none = ap (λ (o : Outcome). o.wires) left
+turn_none long at count ws (b ∷ bs) result left none = absurd (omega arith)

@@ -1,7 +1,8 @@
 -- Pins that name wires too high.
-use Rattle.std.proofs.Common.{◌≡◌, ℕ, zero, suc, ◌+◌, ◌<◌, ◌≤◌, Bool, true, false, cond, not, ◌||◌, eqb, leb, List, [], ◌∷◌, map, length, get_or, drop, is_some, Some, None, Option, unwrap_or, sym, ap, ◌∙◌, arith}
+use Rattle.std.proofs.Common.{◌≡◌, ℕ, zero, suc, ◌+◌, ◌<◌, ◌≤◌, Bool, true, false, cond, not, ◌||◌, eqb, leb, List, [], ◌∷◌, map, length, get_or, drop, is_some, Some, None, Option, unwrap_or, sym, refl, ap, ◌∙◌, arith}
 use Rattle.std.proofs.lemmas.List.{at_drop_more, at_drop_all}
 use Rattle.std.proofs.lemmas.Bool.{le-leb, lt-leb, leb-true, leb-false, eqb-true, and_parts, or_parts}
+use Rattle.std.specs.List.{list_any}
 use Rattle.algebras.specs.declared.kind.Kind.{Kind}
 use Rattle.algebras.specs.declared.kind.Kind.TheVariants.{Buffer, Inverter, And, Or, Xor, Nand, Nor, Xnor}
 use Rattle.algebras.specs.Kinds.{pins_allowed, several}
@@ -10,6 +11,11 @@ use Rattle.nets.specs.declared.fault.NetFault.TheVariants.{BadKind, BadPinCount,
 use Rattle.nets.specs.Placing.{count_allowed}
 use Rattle.nets.specs.Records.{first_high}
 use Rattle.nets.specs.Wires.{gate, Below, Within}
+
+-- Whether some value passes a test, as one word or as the OR of what the test answers.
+pub any_or : {X : Type 0} (p : X → Bool) (xs : List X) → list_any p xs ≡ or_of (map p xs)
+any_or p [] = refl
+any_or p (x ∷ xs) = ap (λ (b : Bool). p x || b) (any_or p xs)
 
 -- Whether a pin from the i-th on names wire w or a higher one.
 abbrev pub high_from : ℕ → List ℕ → ℕ → Bool
@@ -69,6 +75,11 @@ gate_passes o k w ps qs kind_is few low pins_are =
   where
     passes : {x y z : Bool} → x ≡ true → y ≡ true → z ≡ false → cond (not x) (Some BadKind) (cond (not y) (Some BadPinCount) (cond z (Some HighPin) None)) ≡ None
     passes {x} {y} {z} p q r = rw (p, q, r)
+
+-- A gate of a kind that allows so many pins, one of which is too high, is refused for that pin.
+pub gate_high : (o : Option Kind) (k : Kind) (w : ℕ) (ps : List ℕ) → o ≡ Some k → pins_allowed k (length ps) ≡ true → or_of (map (leb w) ps) ≡ true
+    → cond (not (is_some o)) (Some BadKind) (cond (not (count_allowed o (length ps))) (Some BadPinCount) (cond (or_of (map (leb w) ps)) (Some HighPin) None)) ≡ Some HighPin
+gate_high o k w ps kind_is few high = rw (kind_is, few, high)
 
 -- The place of the first pin too high, from the i-th pin on.
 pub first_here : (w : ℕ) (ps : List ℕ) (i : ℕ) → i < length ps → w ≤ get_or ps i 0 → first_high w (drop i ps) ≡ 0

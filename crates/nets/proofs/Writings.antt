@@ -31,7 +31,7 @@ length_pins [] = refl
 length_pins (p ∷ ps) = let h = length_pins ps in omega arith
 
 -- A gate of the table has at most eight pins, and its record has a byte and two for each.
-pub few_pins : (p : Pins) (ps : List ℕ) → ps ≡ pin_list p → length ps ≤ 8
+pub few_pins : (p : Pins 8) (ps : List ℕ) → ps ≡ pin_list p → length ps ≤ 8
 few_pins p ps same =
     let long = ap length same ∙ length-take p.«count» p.wires in
     let few = p.few in

@@ -6,7 +6,7 @@ use Rattle.nets.specs.declared.wire.Wire.TheVariants.{Input, Output}
 use Rattle.nets.specs.Wires.{Plain, input, gate}
 
 -- The wires that pins name, from the first on.
-abbrev pub pin_list : Pins → List ℕ
+abbrev pub pin_list : {n : ℕ} → Pins n → List ℕ
 pin_list p = take p.«count» p.wires
 
 -- The plain wire that a wire of the table stands for.

@@ -26,12 +26,12 @@ pub enum NetFault {
     ShortBuffer = 14,
 }
 
-impl NetFault {
-    /// The number of this refusal.
-    pub fn number(self) -> u8
-        ensures { result ≡ net_fault_number self }
-    {
-        self as u8
+impl From<NetFault> for u8 {
+    ghost from_gives = { λ f n. n ≡ net_fault_number f };
+
+    /// The number of a refusal.
+    fn from(fault: NetFault) -> u8 {
+        fault as u8
     }
 }
 
@@ -93,7 +93,7 @@ impl ReadFault {
         match self.reason {
             Reason::UnknownKind => 11,
             Reason::CutShort => 12,
-            Reason::Refused(fault) => fault.number(),
+            Reason::Refused(fault) => fault.into(),
         }
     }
 

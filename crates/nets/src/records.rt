@@ -1,13 +1,12 @@
 //! Netlist records: a byte of kind, then a body whose length the kind fixes.
 
-ghost use Rattle.std.specs.Prelude.{◌≤◌};
+use crate::wire::Pins;
 
 pub(crate) mod decode;
 
-// The pins of a gate's record, at most fifteen.
+// A record by its numbers: of an input, or of a gate, whose kind byte counts up to fifteen pins.
 #[derive(Clone, Copy)]
-pub(crate) struct RecordPins {
-    wires: [u16; 15],
-    count: usize,
-    ghost few: { «count» ≤ 15 },
+pub(crate) enum Record {
+    Input { start: u8, changes: u8 },
+    Gate { kind: u8, pins: Pins<15> },
 }

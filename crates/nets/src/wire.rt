@@ -13,19 +13,19 @@ pub struct Drive {
     pub changes: u8,
 }
 
-/// The pins of a gate, at most eight: the numbers of the wires that stand on them, from the first pin on.
+/// At most `N` pins: the numbers of the wires that stand on them, from the first pin on.
 #[derive(Clone, Copy)]
-pub struct Pins {
-    wires: [u16; 8],
+pub struct Pins<const N: usize> {
+    wires: [u16; N],
     count: usize,
-    ghost few: { «count» ≤ 8 },
+    ghost few: { «count» ≤ N },
 }
 
 /// A gate: its kind and its pins.
 #[derive(Clone, Copy)]
 pub struct Gate {
     pub kind: Kind,
-    pub pins: Pins,
+    pub pins: Pins<8>,
 }
 
 /// A wire is an input or the output of a gate.

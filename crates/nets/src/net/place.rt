@@ -53,7 +53,7 @@ impl<L: Algebra> Net<L> {
         ensures kept { ColumnKept L.Algebra self.old column.old → ColumnKept L.Algebra self.new column.new }
         ensures follows { GoesOn L.Algebra self.old column.old self.new column.new (places (length column.old) (ask_input start changes)) }
     {
-        self.place(column, Request::input(start, changes))
+        self.place(column, Request::Input { start, changes })
     }
 
     /// Places a gate as the next wire, works its grade from its pins' entries, and answers its number.

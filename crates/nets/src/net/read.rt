@@ -8,10 +8,10 @@ ghost use Rattle.nets.specs.Nets.{ColumnKept, column_after_reading, column_after
 ghost use Rattle.nets.specs.Records.{reason_number, record_length, search_high, unplaced};
 ghost use Rattle.std.specs.Option.{option_map, unwrap_or};
 
-use crate::fault::{ReadFault, Reason};
+use crate::fault::{NetFault, ReadFault, Reason};
 use crate::net::Net;
-use crate::records::RecordPins;
-use crate::records::decode::{first_high_pin, record_size, request_in};
+use crate::records::Record;
+use crate::records::decode::first_high_pin;
 use algebras::algebra::Algebra;
 
 impl<L: Algebra> Net<L> {
@@ -24,12 +24,8 @@ impl<L: Algebra> Net<L> {
         ensures column { column.new ≡ column_after_record L.Algebra self.old column.old bytes.now }
         ensures kept { ColumnKept L.Algebra self.old column.old → ColumnKept L.Algebra self.new column.new }
     {
-        let size = record_size(bytes[0])?;
-        if bytes.len() < size {
-            return Err(Reason::CutShort.into());
-        }
-        let pins = RecordPins::of(bytes, size);
-        self.place(column, request_in(bytes, &pins))?;
+        let (record, size) = Record::first(bytes)?;
+        self.place(column, record.request())?;
         Ok(size)
     }
 
@@ -44,16 +40,17 @@ impl<L: Algebra> Net<L> {
         ensures follows { GoesOn L.Algebra self.old column.old self.new column.new (reads_in (length column.old) bytes.now) }
     {
         let wires = self.wires();
-        let mut at = 0;
+        let mut rest = bytes;
         let mut records = 0;
-        while at < bytes.len() {
-            match self.place_record(column, &bytes[at..]) {
+        while !rest.is_empty() {
+            match self.place_record(column, rest) {
                 Ok(size) => {
-                    at += size;
+                    rest = &rest[size..];
                     records += 1;
                 }
                 Err(fault) => {
-                    let pin = high_pin(&fault, bytes, wires);
+                    let at = bytes.len() - rest.len();
+                    let pin = high_pin(fault.reason, bytes, wires);
                     return Err(fault.placed(at, self.wires(), pin));
                 }
             }
@@ -63,12 +60,11 @@ impl<L: Algebra> Net<L> {
 }
 
 // The pin that a fault names: the first that is too high, where that is the fault, else 0.
-fn high_pin(fault: &ReadFault, bytes: &[u8], wires: usize) -> usize
-    ensures { result ≡ (if nat_eq (reason_number fault.now.reason) 9 then unwrap_or (search_high 0 wires bytes.now) 0 else 0) }
+fn high_pin(reason: Reason, bytes: &[u8], wires: usize) -> usize
+    ensures { result ≡ (if nat_eq (reason_number reason) 9 then unwrap_or (search_high 0 wires bytes.now) 0 else 0) }
 {
-    if fault.number() == 9 {
-        first_high_pin(bytes, wires).unwrap_or(0)
-    } else {
-        0
+    match reason {
+        Reason::Refused(NetFault::HighPin) => first_high_pin(bytes, wires).unwrap_or(0),
+        _ => 0,
     }
 }

@@ -78,7 +78,7 @@ fn write_record(wire: &Wire, buffer: &mut [u8], at: usize) -> usize
         }
         Wire::Output(gate) => {
             let pins = gate.pins.as_slice();
-            buffer[at] = 16 * gate.kind.number() + pins.len() as u8;
+            buffer[at] = 16 * u8::from(gate.kind) + pins.len() as u8;
             write_pins(pins, buffer, at + 1)
         }
     }

@@ -1,48 +1,81 @@
 //! Taking records apart.
 
-ghost use Rattle.std.specs.Prelude.{◌≡◌, suc, ◌≤◌, length, if◌then◌else◌, Some, None};
-ghost use Rattle.nets.specs.Decoding.{record_pins};
+ghost use Rattle.std.specs.Prelude.{◌≡◌, suc, ◌<◌, length, if◌then◌else◌, Some, None};
+ghost use Rattle.nets.specs.Decoding.{FirstRecord, asks};
 ghost use Rattle.nets.specs.Faults.{unless};
 ghost use Rattle.nets.specs.Placing.{plain_request};
-ghost use Rattle.nets.specs.Records.{body_size, known, pins_asked, pins_in, record_length, request_of, search_high};
+ghost use Rattle.nets.specs.Records.{body_size, known, pins_asked, search_high};
 ghost use Rattle.nets.specs.declared.fault.Reason.TheVariants.{UnknownKind};
 
 use crate::fault::Reason;
-use crate::records::RecordPins;
+use crate::records::Record;
 use crate::request::Request;
+use crate::wire::Pins;
 use algebras::kind::Kind;
 
 // The kind byte of an input's record.
 pub(crate) const INPUT: u8 = 0x01;
 
 // The length of the record that a kind byte begins.
-pub(crate) fn record_size(kind: u8) -> Result<usize, Reason>
+fn record_size(kind: u8) -> Result<usize, Reason>
     ensures { result ≡ unless (if known kind then None else Some UnknownKind) (suc (body_size kind)) }
 {
     if kind == INPUT {
         return Ok(3);
     }
-    match Kind::from_number(kind / 16) {
-        Some(_) => Ok(1 + 2 * (kind % 16) as usize),
-        None => Err(Reason::UnknownKind),
+    match Kind::try_from(kind / 16) {
+        Ok(_) => Ok(1 + 2 * usize::from(kind % 16)),
+        Err(_) => Err(Reason::UnknownKind),
     }
 }
 
-// What the record that these bytes begin with asks to be placed, where these are its pins.
-pub(crate) fn request_in<'a>(bytes: &[u8], pins: &'a RecordPins) -> Request<'a>
-    requires whole { record_length bytes.now ≤ length bytes.now }
-    requires pins { record_pins pins.now ≡ pins_asked (request_of bytes.now) }
-    ensures { plain_request result ≡ request_of bytes.now }
-{
-    if bytes[0] == INPUT {
-        Request::Input {
-            start: bytes[1],
-            changes: bytes[2],
+impl Record {
+    // The record that these bytes begin with, and its length.
+    pub(crate) fn first(bytes: &[u8]) -> Result<(Record, usize), Reason>
+        requires { 0 < length bytes.now }
+        ensures { FirstRecord bytes.now result }
+    {
+        let size = record_size(bytes[0])?;
+        if bytes.len() < size {
+            return Err(Reason::CutShort);
         }
-    } else {
-        Request::Gate {
-            kind: bytes[0] / 16,
-            pins: pins.as_slice(),
+        let record = if bytes[0] == INPUT {
+            Record::Input {
+                start: bytes[1],
+                changes: bytes[2],
+            }
+        } else {
+            Record::Gate {
+                kind: bytes[0] / 16,
+                pins: Pins::decode(&bytes[1..size]),
+            }
+        };
+        Ok((record, size))
+    }
+
+    // What this record asks to be placed.
+    pub(crate) fn request(&self) -> Request<'_>
+        ensures { plain_request result ≡ asks self.now }
+    {
+        match self {
+            Record::Input { start, changes } => Request::Input {
+                start: *start,
+                changes: *changes,
+            },
+            Record::Gate { kind, pins } => Request::Gate {
+                kind: *kind,
+                pins: pins.as_slice(),
+            },
+        }
+    }
+
+    // The wires that the pins of this record name; an input has none.
+    fn pins(&self) -> &[u16]
+        ensures { result.now ≡ pins_asked (asks self.now) }
+    {
+        match self {
+            Record::Input { .. } => &[],
+            Record::Gate { pins, .. } => pins.as_slice(),
         }
     }
 }
@@ -52,63 +85,22 @@ pub(crate) fn request_in<'a>(bytes: &[u8], pins: &'a RecordPins) -> Request<'a>
 pub(crate) fn first_high_pin(bytes: &[u8], wires: usize) -> Option<usize>
     ensures { result ≡ search_high 0 wires bytes.now }
 {
-    let mut at = 0;
-    let mut wire = wires;
+    let mut rest = bytes;
     'search: {
-        while at < bytes.len() {
-            let record = &bytes[at..];
-            let Ok(size) = record_size(record[0]) else {
-                break 'search None;
-            };
-            if record.len() < size || wire >= 512 {
+        for wire in wires..512 {
+            if rest.is_empty() {
                 break 'search None;
             }
-            let pins = RecordPins::of(record, size);
-            for (pin, named) in pins.as_slice().iter().enumerate() {
-                if *named as usize >= wire {
+            let Ok((record, size)) = Record::first(rest) else {
+                break 'search None;
+            };
+            for (pin, named) in record.pins().iter().enumerate() {
+                if usize::from(*named) >= wire {
                     break 'search Some(pin);
                 }
             }
-            at += size;
-            wire += 1;
+            rest = &rest[size..];
         }
         None
-    }
-}
-
-impl RecordPins {
-    // The pins in the body of a gate's record.
-    pub(crate) fn decode(body: &[u8]) -> RecordPins
-        requires { length body.now ≤ 30 }
-        ensures { record_pins result ≡ pins_in body.now }
-    {
-        let mut wires = [0; 15];
-        let count = body.len() / 2;
-        for k in 0..count {
-            wires[k] = body[2 * k] as u16 + 256 * body[2 * k + 1] as u16;
-        }
-        RecordPins { wires, count }
-    }
-
-    // The pins of the record that these bytes begin with, of which `size` are the record; an input has none.
-    pub(crate) fn of(bytes: &[u8], size: usize) -> RecordPins
-        requires length { record_length bytes.now ≡ size }
-        requires whole { size ≤ length bytes.now }
-        ensures { record_pins result ≡ pins_asked (request_of bytes.now) }
-    {
-        if bytes[0] == INPUT {
-            return RecordPins {
-                wires: [0; 15],
-                count: 0,
-            };
-        }
-        RecordPins::decode(&bytes[1..size])
-    }
-
-    // The wires that the pins name.
-    pub(crate) fn as_slice(&self) -> &[u16]
-        ensures { result.now ≡ record_pins self.now }
-    {
-        &self.wires[0..self.count]
     }
 }

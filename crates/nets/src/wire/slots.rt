@@ -1,9 +1,10 @@
 //! Making wires and their pins.
 
-ghost use Rattle.std.specs.Prelude.{◌≡◌, ◌≤◌, true, map, length, nat_le, MatchResult};
-ghost use Rattle.algebras.specs.Letters.{or_of};
+ghost use Rattle.std.specs.Prelude.{◌≡◌, ◌+◌, ◌≤◌, true, length, nat_le, MatchResult};
+ghost use Rattle.std.specs.List.{list_any};
 ghost use Rattle.nets.specs.Faults.{first_fault};
 ghost use Rattle.nets.specs.Placing.{AskedAs, ask_gate, asked, plain_request, request_checks};
+ghost use Rattle.nets.specs.Records.{pins_in};
 ghost use Rattle.nets.specs.Tables.{pin_list, plain};
 ghost use Rattle.nets.specs.Wires.{Within, fits};
 ghost use Rattle.nets.specs.declared.wire.Wire.TheVariants.{Output};
@@ -13,36 +14,46 @@ use crate::request::Request;
 use crate::wire::{Drive, Gate, Pins, Wire};
 use algebras::kind::Kind;
 
-impl Pins {
+impl<const N: usize> Pins<N> {
     // Pins on these wires.
-    pub(crate) fn on(pins: &[u16]) -> Pins
-        requires { length pins.now ≤ 8 }
+    pub(crate) fn on(pins: &[u16]) -> Pins<N>
+        requires { length pins.now ≤ N }
         ensures { pin_list result ≡ pins.now }
     {
-        let mut wires = [0; 8];
+        let mut wires = [0; N];
         let count = pins.len();
-        wires[0..count].copy_from_slice(pins);
+        wires[..count].copy_from_slice(pins);
         Pins { wires, count }
+    }
+
+    // The pins in the body of a gate's record.
+    pub(crate) fn decode(body: &[u8]) -> Pins<N>
+        requires { length body.now ≤ N + N }
+        ensures { pin_list result ≡ pins_in body.now }
+    {
+        let mut wires = [0; N];
+        for (pin, pair) in body.chunks_exact(2).enumerate() {
+            wires[pin] = u16::from_le_bytes([pair[0], pair[1]]);
+        }
+        Pins {
+            wires,
+            count: body.len() / 2,
+        }
     }
 
     /// The wires that the pins name, from the first pin on.
     pub fn as_slice(&self) -> &[u16]
         ensures { result.now ≡ pin_list self.now }
     {
-        &self.wires[0..self.count]
+        &self.wires[..self.count]
     }
 }
 
 // Whether a pin names this wire or a higher one.
 fn names_high(pins: &[u16], wire: usize) -> bool
-    ensures { result ≡ or_of (map (nat_le wire) pins.now) }
+    ensures { result ≡ list_any (nat_le wire) pins.now }
 {
-    for pin in pins {
-        if *pin as usize >= wire {
-            return true;
-        }
-    }
-    false
+    pins.iter().any(|&pin| usize::from(pin) >= wire)
 }
 
 impl Gate {
@@ -50,7 +61,7 @@ impl Gate {
     pub(crate) fn asked(kind: u8, pins: &[u16], wire: usize) -> Result<Gate, NetFault>
         ensures { MatchResult result (λ g. (first_fault (request_checks wire (ask_gate kind pins.now)) ≡ None) × (plain (Output g) ≡ asked (ask_gate kind pins.now)) × Within wire (plain (Output g)) × (fits (plain (Output g)) ≡ true)) (λ f. first_fault (request_checks wire (ask_gate kind pins.now)) ≡ Some f) }
     {
-        let Some(kind) = Kind::from_number(kind) else {
+        let Ok(kind) = Kind::try_from(kind) else {
             return Err(NetFault::BadKind);
         };
         if !kind.admits(pins.len()) {

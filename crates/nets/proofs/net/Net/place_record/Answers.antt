@@ -7,17 +7,16 @@ use Rattle.nets.specs.Placing.{Request, asked}
 use Rattle.nets.specs.Records.{unplaced}
 use Rattle.nets.specs.Working.{worked}
 use Rattle.nets.proofs.Placements.{unless_ok, unless_err, unless_passed, settled_passed, unless_refused, settled_refused}
-use Rattle.nets.proofs.Readings.{known_from, readable, record_refused, record_admitted}
+use Rattle.nets.proofs.Readings.{record_refused, record_admitted}
 use Rattle.nets.proofs.net.Net.place_record.Goals as goal
 
 pub returns-in_err-place : goal.returns-in_err-place
 returns-in_err-place g c =
     let bytes = c.args.bytes.now in
     let f = c.in_err-place.field-0.0 in
-    let size = unless_ok _ _ _ (sym c.in_ok-size.ensures) in
-    let read = readable bytes _ (known_from _ size.0) size.1 c.if-bytes-size.false in
+    let asks = sym (c.request.ensures ∙ c.in_ok-record.ensures.1) in
     let s = unless_err _ _ f (sym c.in_err-place.ensures.answer) in
-    let t = record_refused (net_wires c.args.self.now) (length c.args.column.now) bytes _ f read (sym c.request_in.ensures) s in
+    let t = record_refused (net_wires c.args.self.now) (length c.args.column.now) bytes _ f c.in_ok-record.ensures.0 asks s in
     let p = err_from_is_err_and c.from_residual-in_err-place.result c.from_residual-in_err-place.ensures.1 in
     record {
       answer = p.1 ∙ ap Err p.2 ∙ unless_refused _ _ (unplaced (Refused f)) (ap (option_map unplaced) t);
@@ -32,13 +31,11 @@ returns g c =
     let bytes = c.args.bytes.now in
     let n = c.args.self.now in
     let column = c.args.column.now in
-    let size = unless_ok _ _ _ (sym c.in_ok-size.ensures) in
-    let read = readable bytes _ (known_from _ size.0) size.1 c.if-bytes-size.false in
     let s = (unless_ok _ _ _ (sym c.in_ok-place.ensures.answer)).0 in
-    let asks = sym c.request_in.ensures in
-    let t = record_admitted (net_wires n) (length column) bytes _ read asks s in
+    let asks = sym (c.request.ensures ∙ c.in_ok-record.ensures.1) in
+    let t = record_admitted (net_wires n) (length column) bytes _ c.in_ok-record.ensures.0 asks s in
     record {
-      answer = ap Ok (sym size.1) ∙ unless_passed _ _ (ap (option_map unplaced) t);
+      answer = ap Ok c.in_ok-record.ensures.2 ∙ unless_passed _ _ (ap (option_map unplaced) t);
       net = c.place.ensures.net ∙ sym (settled_passed _ _ (net_wires n) s) ∙ ap (λ (q : Request). net_wires n ++ asked q ∷ []) (sym asks) ∙ settled_passed _ _ _ t;
       algebra = c.place.ensures.algebra;
       column = c.place.ensures.column ∙ sym (settled_passed _ _ column s) ∙ ap (λ (q : Request). set column (length (net_wires n)) (worked g.L.Algebra n.algebra column (asked q))) (sym asks) ∙ settled_passed _ _ _ t;

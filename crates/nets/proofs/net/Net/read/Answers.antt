@@ -1,4 +1,5 @@
-use Rattle.std.proofs.Common.{◌≡◌, ℕ, ◌+◌, ◌-◌, ◌≤◌, cond, eqb, length, take, drop, set, Err, unwrap_or, sym, ap, ◌∙◌, arith}
+use Rattle.std.proofs.Common.{◌≡◌, ℕ, ◌+◌, ◌-◌, ◌<◌, ◌≤◌, cond, eqb, length, take, drop, set, Err, unwrap_or, sym, ap, ◌∙◌, arith, rules}
+use Rattle.std.proofs.lemmas.List.{take_rest}
 use Rattle.nets.specs.declared.fault.Reason.{Reason}
 use Rattle.nets.specs.declared.fault.ReadFault.{ReadFault}
 use Rattle.nets.specs.Faults.{settled}
@@ -8,64 +9,88 @@ use Rattle.nets.specs.Placing.{asked}
 use Rattle.nets.specs.Records.{at_place, column_reading, Outcome, reading, reason_number, reason_of, request_of, search_high}
 use Rattle.nets.specs.Working.{worked}
 use Rattle.nets.proofs.Followed.{goes_on}
-use Rattle.nets.proofs.Outcomes.{column_none, mapped_none, mapped_some, turn_none, turn_placed, turn_refused}
+use Rattle.nets.proofs.Outcomes.{mapped_none, mapped_some, placed_whole, turn_none, turn_placed, turn_refused}
 use Rattle.nets.proofs.Placements.{unless_ok, unless_err}
+use Rattle.nets.proofs.Readings.{rest_length}
 use Rattle.nets.proofs.net.Net.read.Given.{Over}
 use Rattle.nets.proofs.net.Net.read.Goals as goal
 
+pub slice_bounds-rest-count : goal.slice_bounds-rest-count
+slice_bounds-rest-count g c =
+    let ok = unless_ok _ _ _ (sym c.in-Ok.ensures.answer) in
+    let whole = placed_whole (net_wires c.loop-rest.self) (length c.loop-rest.column) c.loop-rest.rest.now (search rules) (mapped_none _ _ ok.0) in
+    omega (arith, whole, ok.1)
+
+pub slice_bounds-rest-start : goal.slice_bounds-rest-start
+slice_bounds-rest-start g c = let fits = slice_bounds-rest-count g c in search rules
+
 -- What a record that is placed leaves.
-placed : (g : Over) (c : goal.In-Ok g)
-    → (c.loop-at.at + c.in-Ok.size ≤ length c.args.bytes.now) × (1 ≤ c.in-Ok.size)
-    × (reading (length c.place_record.new.column) (c.loop-at.at + c.in-Ok.size) 0 (c.loop-at.records + 1) (net_wires c.place_record.new.self)
-    (drop (c.loop-at.at + c.in-Ok.size) c.args.bytes.now) ≡ outcome_of_reading c.args.self.now c.args.column.now c.args.bytes.now)
+placed : (g : Over) (c : goal.After-rest-1 g)
+    → (c.in-Ok.size ≤ length c.loop-rest.rest.now) × (1 ≤ c.in-Ok.size)
+    × (reading (length c.place_record.new.column) (length c.args.bytes.now - length c.loop-rest.rest.now + c.in-Ok.size) 0 (c.loop-rest.records + 1) (net_wires c.place_record.new.self)
+    (drop c.in-Ok.size c.loop-rest.rest.now) ≡ outcome_of_reading c.args.self.now c.args.column.now c.args.bytes.now)
     × (column_reading g.L.Algebra c.args.self.now.algebra 0 (net_wires c.place_record.new.self) c.place_record.new.column
-    (drop (c.loop-at.at + c.in-Ok.size) c.args.bytes.now) ≡ column_after_reading g.L.Algebra c.args.self.now c.args.column.now c.args.bytes.now)
-    × (search_high 0 (length (net_wires c.place_record.new.self)) (drop (c.loop-at.at + c.in-Ok.size) c.args.bytes.now) ≡ search_high 0 c.wires-wires.result c.args.bytes.now)
+    (drop c.in-Ok.size c.loop-rest.rest.now) ≡ column_after_reading g.L.Algebra c.args.self.now c.args.column.now c.args.bytes.now)
+    × (search_high 0 (length (net_wires c.place_record.new.self)) (drop c.in-Ok.size c.loop-rest.rest.now) ≡ search_high 0 c.wires-wires.result c.args.bytes.now)
 placed g c =
     let L = g.L.Algebra in
-    let bytes = c.args.bytes.now in
-    let at = c.loop-at.at in
-    let ws = net_wires c.loop-at.self in
-    let column = c.loop-at.column in
-    let rest = take (length bytes - at) (drop at bytes) in
+    let ws = net_wires c.loop-rest.self in
+    let column = c.loop-rest.column in
+    let rest = c.loop-rest.rest.now in
     let ok = unless_ok _ _ _ (sym c.in-Ok.ensures.answer) in
-    turn_placed L c.args.self.now.algebra bytes at c.loop-at.records ws column _ _ _ c.loop-at-test.true c.loop-at.invariant.3 c.loop-at.invariant.4 c.loop-at.invariant.5
+    turn_placed L c.args.self.now.algebra rest (length c.args.bytes.now - length rest) c.loop-rest.records ws column _ _ _ (search rules) c.loop-rest.invariant.3 c.loop-rest.invariant.4 c.loop-rest.invariant.5
     c.in-Ok.size (net_wires c.place_record.new.self) c.place_record.new.column (mapped_none _ _ ok.0) ok.1 c.place_record.ensures.net
-    (c.place_record.ensures.column ∙ ap (λ a. settled (reason_of ws (length column) rest) (set column (length ws) (worked L a column (asked (request_of rest)))) column) c.loop-at.invariant.2)
+    (c.place_record.ensures.column ∙ ap (λ a. settled (reason_of ws (length column) rest) (set column (length ws) (worked L a column (asked (request_of rest)))) column) c.loop-rest.invariant.2)
 
-pub overflow_add-at : goal.overflow_add-at
-overflow_add-at g c = let t = (placed g c).0 in omega arith
-
-pub loop-at-smaller : goal.loop-at-smaller
-loop-at-smaller g c =
+pub loop-rest-smaller : goal.loop-rest-smaller
+loop-rest-smaller g c =
     let t = (placed g c).0 in
     let u = (placed g c).1 in
+    let long = rest_length c.loop-rest.rest.now c.in-Ok.size in
     omega arith
 
-pub loop-at-preserved : goal.loop-at-preserved
-loop-at-preserved g c =
+pub loop-rest-preserved : goal.loop-rest-preserved
+loop-rest-preserved g c =
     let t = placed g c in
-    let few = t.1 in
-    let records = c.loop-at.invariant.1 in
-    (t.0, omega (arith, few, records), c.place_record.ensures.algebra ∙ c.loop-at.invariant.2, t.2, t.3, t.4, λ kept. c.place_record.ensures.kept (c.loop-at.invariant.6 kept))
+    let fits = t.0 in
+    let some = t.1 in
+    let bytes = c.args.bytes.now in
+    let rest = c.loop-rest.rest.now in
+    let size = c.in-Ok.size in
+    let inside = c.loop-rest.invariant.0 in
+    let records = c.loop-rest.invariant.1 in
+    let long = rest_length rest size in
+    let left = take_rest rest size in
+    let at : length bytes - length (take (length rest - size) (drop size rest)) ≡ length bytes - length rest + size = omega (arith, fits, inside, long) in
+    let ws = net_wires c.place_record.new.self in
+    let column = c.place_record.new.column in (
+      omega (arith, inside, long),
+      omega (arith, some, fits, inside, records, long),
+      c.place_record.ensures.algebra ∙ c.loop-rest.invariant.2,
+      ap (λ (n : ℕ). reading (length column) n 0 (c.loop-rest.records + 1) ws (take (length rest - size) (drop size rest))) at
+          ∙ ap (reading (length column) (length bytes - length rest + size) 0 (c.loop-rest.records + 1) ws) left ∙ t.2,
+      ap (column_reading g.L.Algebra c.args.self.now.algebra 0 ws column) left ∙ t.3,
+      ap (search_high 0 (length ws)) left ∙ t.4,
+      λ kept. c.place_record.ensures.kept (c.loop-rest.invariant.6 kept),
+    )
 
 pub returns-in-Err : goal.returns-in-Err
 returns-in-Err g c =
     let L = g.L.Algebra in
     let bytes = c.args.bytes.now in
-    let at = c.loop-at.at in
-    let ws = net_wires c.loop-at.self in
-    let column = c.loop-at.column in
-    let rest = take (length bytes - at) (drop at bytes) in
+    let ws = net_wires c.loop-rest.self in
+    let column = c.loop-rest.column in
+    let rest = c.loop-rest.rest.now in
+    let at = length bytes - length rest in
     let bad = mapped_some _ _ _ (unless_err _ _ _ (sym c.in-Err.ensures.answer)) in
     let r = bad.0 in
     let same = ap (λ (f : ReadFault). f.reason) bad.2 in
     let ends =
-    turn_refused L c.args.self.now.algebra bytes at c.loop-at.records ws column _ _ _ c.loop-at-test.true c.loop-at.invariant.3 c.loop-at.invariant.4 c.loop-at.invariant.5
+    turn_refused L c.args.self.now.algebra rest at c.loop-rest.records ws column _ _ _ (search rules) c.loop-rest.invariant.3 c.loop-rest.invariant.4 c.loop-rest.invariant.5
     r (net_wires c.place_record.new.self) c.place_record.new.column c.high_pin-pin.result bad.1 c.place_record.ensures.net
-    (c.place_record.ensures.column ∙ ap (λ a. settled (reason_of ws (length column) rest) (set column (length ws) (worked L a column (asked (request_of rest)))) column) c.loop-at.invariant.2)
+    (c.place_record.ensures.column ∙ ap (λ a. settled (reason_of ws (length column) rest) (set column (length ws) (worked L a column (asked (request_of rest)))) column) c.loop-rest.invariant.2)
     (c.high_pin-pin.ensures ∙ sym (ap (λ (x : Reason). cond (eqb (reason_number x) 9) (unwrap_or (search_high 0 c.wires-wires.result bytes) 0) 0) same)) in
-    let kept = λ (k : ColumnKept L c.args.self.now c.args.column.now). c.place_record.ensures.kept (c.loop-at.invariant.6 k) in
+    let kept = λ (k : ColumnKept L c.args.self.now c.args.column.now). c.place_record.ensures.kept (c.loop-rest.invariant.6 k) in
     record {
       answer =
           ap Err (c.placed.ensures
@@ -73,22 +98,13 @@ returns-in-Err g c =
           ∙ ap (λ (n : ℕ). at_place r at n c.high_pin-pin.result) c.wires.ensures)
           ∙ ends.0;
       net = ends.1;
-      algebra = c.place_record.ensures.algebra ∙ c.loop-at.invariant.2;
+      algebra = c.place_record.ensures.algebra ∙ c.loop-rest.invariant.2;
       column = ends.2;
       kept = kept;
       follows = goes_on L c.args.self.now c.place_record.new.self c.args.column.now c.place_record.new.column (reads_in (length c.args.column.now) bytes) ends.1 kept;
     }
 
-pub returns : goal.returns
-returns g c =
-    let n = c.args.self.now in
-    let ws = net_wires c.loop-at.self in
-    let ends = turn_none (length c.loop-at.column) c.args.bytes.now c.loop-at.at c.loop-at.records ws _ c.loop-at.invariant.3 c.loop-at-test.false in
-    record {
-      answer = ap (λ (o : Outcome). o.answer) ends;
-      net = ap (λ (o : Outcome). o.wires) ends;
-      algebra = c.loop-at.invariant.2;
-      column = column_none g.L.Algebra n.algebra c.args.bytes.now c.loop-at.at ws c.loop-at.column _ c.loop-at.invariant.4 c.loop-at-test.false;
-      kept = c.loop-at.invariant.6;
-      follows = goes_on g.L.Algebra n c.loop-at.self c.args.column.now c.loop-at.column (reads_in (length c.args.column.now) c.args.bytes.now) (ap (λ (o : Outcome). o.wires) ends) c.loop-at.invariant.6;
-    }
+pub returns-clause-follows : goal.returns-clause-follows
+returns-clause-follows g c =
+    goes_on g.L.Algebra c.args.self.now c.loop-rest.self c.args.column.now c.loop-rest.column (reads_in (length c.args.column.now) c.args.bytes.now)
+    (turn_none _ _ _ _ c.loop-rest.rest.now _ c.loop-rest.invariant.3 (search rules)) c.loop-rest.invariant.6

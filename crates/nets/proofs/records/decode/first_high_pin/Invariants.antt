@@ -1,4 +1,4 @@
-use Rattle.std.proofs.Common.{◌≡◌, ◌+◌, ◌-◌, ◌≤◌, length, drop}
+use Rattle.std.proofs.Common.{◌≡◌, ◌+◌, drop}
 use Rattle.nets.specs.Records.{first_high, search_high}
 use Rattle.nets.proofs.Pinning.{high_from}
 use Rattle.nets.proofs.records.decode.first_high_pin.Given as goal
@@ -8,8 +8,5 @@ invariant-loop-pin l =
     (high_from l.wire l.named-items l.pin ≡ high_from l.wire l.named-items 0)
     × (l.pin + first_high l.wire (drop l.pin l.named-items) ≡ first_high l.wire l.named-items)
 
-abbrev pub invariant-loop-at : goal.invariant-loop-at
-invariant-loop-at l = (l.at ≤ length l.bytes) × (search_high 0 l.wire (drop l.at l.bytes) ≡ search_high 0 l.initial.wire l.bytes)
-
-abbrev pub decreases-loop-at : goal.decreases-loop-at
-decreases-loop-at l = length l.initial.bytes - l.at
+abbrev pub invariant-loop-wire : goal.invariant-loop-wire
+invariant-loop-wire l = search_high 0 l.wire l.rest ≡ search_high 0 l.wires l.bytes
