@@ -1,6 +1,6 @@
 -- Reading record after record: what one record does, and what is left to read.
-use Rattle.std.proofs.Common.{◌≡◌, ℕ, zero, suc, ◌+◌, ◌-◌, ◌<◌, ◌≤◌, Bool, true, false, cond, not, eqb, ltb, leb, ◌⊎◌, List, [], ◌∷◌, ◌++◌, map, length, get_or, take, drop, set, is_some, Some, None, Ok, Err, Option, unwrap_or, sym, refl, ap, ◌∙◌, inl, inr, ⊎_elim, add-one, arith}
-use Rattle.std.proofs.lemmas.List.{take_rest, length_push, length-set, drop_all}
+use Rattle.std.proofs.Common.{◌≡◌, ℕ, zero, suc, ◌+◌, ◌<◌, ◌≤◌, Bool, true, false, cond, not, eqb, ltb, leb, ◌⊎◌, List, [], ◌∷◌, ◌++◌, map, length, get_or, drop, set, is_some, Some, None, Err, Option, unwrap_or, sym, refl, ap, ◌∙◌, inl, inr, ⊎_elim, add-one, arith}
+use Rattle.std.proofs.lemmas.List.{length_push, length-set}
 use Rattle.std.proofs.lemmas.Bool.{cases_Bool, eqb-true, leb-false, ltb-false}
 use Rattle.std.specs.Option.{option_map}
 use Rattle.algebras.specs.declared.algebra.Algebra.{Ghosts}
@@ -16,7 +16,7 @@ use Rattle.nets.specs.Records.{at_place, body_size, carried, column_reading, fir
 use Rattle.nets.specs.Wires.{Plain}
 use Rattle.nets.specs.Working.{worked}
 use Rattle.nets.proofs.Placements.{settled_passed, settled_refused}
-use Rattle.nets.proofs.Readings.{search_finds, search_goes_on, rest_length, rest_drop}
+use Rattle.nets.proofs.Readings.{search_finds, search_goes_on}
 
 -- One reason or another.
 pub or_else_none : {X : Type 0} (x y : Option X) → or_else x y ≡ None → (x ≡ None) × (y ≡ None)

@@ -5,13 +5,13 @@ use Rattle.std.proofs.lemmas.Bool.{lt-leb, ne_eqb}
 use Rattle.algebras.specs.declared.kind.Kind.{Kind}
 use Rattle.algebras.specs.declared.kind.Kind.TheVariants.{Buffer, Inverter, And, Or, Xor, Nand, Nor, Xnor}
 use Rattle.algebras.specs.Kinds.{kind_number, kind_of, pins_allowed}
-use Rattle.algebras.specs.Letters.{or_of}
+use Rattle.algebras.specs.Letters.{bit, or_of}
 use Rattle.nets.specs.declared.fault.NetFault.TheVariants.{Full, ShortColumn}
 use Rattle.nets.specs.Faults.{first_fault}
 use Rattle.nets.specs.Placing.{Request, ask_input, ask_gate, asked, refusal, request_checks}
 use Rattle.nets.specs.Records.{body_size, is_input, known, misread, pins_in, reading, record_length, request_of}
 use Rattle.nets.specs.Wires.{Plain, input, gate, Below, Fitting, Lower, fits, pins_of}
-use Rattle.nets.specs.Writing.{ReadsBack, answer_of_writing, buffer_after_writing, gate_byte, pin_bytes, record_of, records_of, start_byte, writing_refusal, written_over}
+use Rattle.nets.specs.Writing.{ReadsBack, answer_of_writing, buffer_after_writing, gate_byte, pin_bytes, record_of, records_of, writing_refusal, written_over}
 use Rattle.nets.proofs.Outcomes.{reading_goes_on}
 use Rattle.nets.proofs.Pinning.{allowed, gate_passes}
 use Rattle.nets.proofs.Placements.{admitted, input_passes, settled_passed, unless_passed}
@@ -38,7 +38,7 @@ pins_back (p ∷ ps) =
 
 -- What the record of a wire asks for.
 abbrev pub asks : Plain → Request
-asks (input start changes) = ask_input (start_byte start) changes
+asks (input start changes) = ask_input (bit start) changes
 asks (gate k ps) = ask_gate (kind_number k) ps
 
 pub asks_back : (w : Plain) → asked (asks w) ≡ w

@@ -1,13 +1,18 @@
 -- Writing records one after another, and what stands in the buffer after them.
-use Rattle.std.proofs.Common.{◌≡◌, ℕ, suc, ◌+◌, ◌*◌, ◌/◌, ◌%◌, ◌<◌, ◌≤◌, Bool, cond, List, [], ◌∷◌, ◌++◌, map, length, get_or, drop, set, Some, None, sym, refl, ap, ◌∙◌, arith}
-use Rattle.std.proofs.lemmas.List.{append_assoc, at_drop_more, at_drop_all, length-append, length_push, length-set, length-take, set_at}
+use Rattle.std.proofs.Common.{◌≡◌, ℕ, suc, ◌+◌, ◌-◌, ◌*◌, ◌/◌, ◌%◌, ◌<◌, ◌≤◌, Bool, cond, List, [], ◌∷◌, ◌++◌, map, length, get_or, take, drop, set, sum_by, Some, None, sym, refl, ap, ◌∙◌, arith}
+use Rattle.std.proofs.lemmas.List.{append_assoc, at_drop_more, at_drop_all, length-append, length-drop, length_push, length-set, length-take, length-take-le, set_at, take-append-drop}
+use borrow.Rule.Slice.PartMut.{put_mid}
+use mir.Val.{bool_byte}
+use Rattle.std.proofs.lemmas.List.Sums.{sum_by-cons}
 use Rattle.std.proofs.lemmas.Bool.{le-ltb, lt-ltb}
 use Rattle.algebras.specs.declared.kind.Kind.{Kind}
 use Rattle.algebras.specs.declared.kind.Kind.TheVariants.{Buffer, Inverter, And, Or, Xor, Nand, Nor, Xnor}
+use Rattle.algebras.specs.Counts.{byte_bit}
 use Rattle.algebras.specs.Kinds.{kind_number}
 use Rattle.nets.specs.declared.fault.NetFault.TheVariants.{ShortBuffer}
 use Rattle.nets.specs.declared.wire.Wire.{Wire}
-use Rattle.nets.specs.declared.wire.Wire.TheVariants.{Output}
+use Rattle.nets.specs.declared.wire.Wire.TheVariants.{Input, Output}
+use Rattle.nets.specs.declared.wire.Drive.{Drive}
 use Rattle.nets.specs.declared.wire.Gate.{Gate}
 use Rattle.nets.specs.declared.wire.Pins.{Pins}
 use Rattle.nets.specs.Wires.{Plain}
@@ -67,9 +72,27 @@ written_after ps (x ∷ xs) (b ∷ bs) fits =
     ∙ written_after (ps ++ b ∷ []) xs bs (omega arith)
     ∙ append_assoc ps (b ∷ []) (bs ++ drop (length bs) xs)
 
+-- A part that is as long as the bytes copied over it is written with them.
+pub part_written : (xs : List ℕ) (at k : ℕ) (bs : List ℕ) → k ≡ length bs → at + length bs ≤ length xs → put_mid at k xs bs ≡ written_over xs at bs
+part_written xs at k bs same fits =
+    let front : length (take at xs) ≡ at = length-take-le at xs (omega arith) in
+    let back = length-drop at xs in
+    ap (λ (n : ℕ). take at xs ++ (bs ++ drop n (drop at xs))) same
+    ∙ sym (written_after (take at xs) (drop at xs) bs (omega arith))
+    ∙ ap (λ (n : ℕ). written_over (take at xs ++ drop at xs) n bs) front
+    ∙ ap (λ (ys : List ℕ). written_over ys at bs) (take-append-drop at xs)
+
 -- What is written at the front stands before the rest.
 pub written_front : (xs bs : List ℕ) → length bs ≤ length xs → written_over xs 0 bs ≡ bs ++ drop (length bs) xs
 written_front xs bs fits = written_after [] xs bs fits
+
+-- The record of an input is written.
+pub input_written : (v : Wire) (d : Drive) (xs ys : List ℕ) (at start : ℕ) → v ≡ Input d → start ≡ bool_byte d.start → at + length (record_of (plain v)) ≤ length xs
+    → ys ≡ 1 ∷ start ∷ d.changes ∷ [] → put_mid at (at + 3 - at) xs ys ≡ written_over xs at (record_of (plain v))
+input_written v d xs ys at start is start_of fits same =
+    let bytes : ys ≡ record_of (plain v) = same ∙ ap (λ (n : ℕ). 1 ∷ n ∷ d.changes ∷ []) (start_of ∙ byte_bit d.start) ∙ sym (ap (λ (u : Wire). record_of (plain u)) is) in
+    let long = ap (λ (u : Wire). length (record_of (plain u))) is in
+    ap (put_mid at (at + 3 - at) xs) bytes ∙ part_written xs at (at + 3 - at) (record_of (plain v)) (omega arith) fits
 
 -- The records of the wires from the i-th on.
 abbrev pub records_from : List Wire → ℕ → List ℕ
@@ -87,6 +110,14 @@ records_none vs i past = at_drop_all (λ (us : List Wire). records_of (map plain
 pub size_more : (vs : List Wire) (i : ℕ) (v : Wire) → i < length vs → v ≡ get_or vs i v
     → length (records_from vs i) ≡ length (record_of (plain v)) + length (records_from vs (i + 1))
 size_more vs i v within read = ap length (records_more vs i v within read) ∙ length-append (record_of (plain v)) (records_from vs (i + 1))
+
+-- The sizes of all records.
+pub all_sizes : (vs : List Wire) → sum_by (λ (v : Wire). length (record_of (plain v))) vs ≡ length (records_of (map plain vs))
+all_sizes [] = refl
+all_sizes (v ∷ vs) =
+    sum_by-cons (λ (u : Wire). length (record_of (plain u))) v vs
+    ∙ ap (λ (n : ℕ). length (record_of (plain v)) + n) (all_sizes vs)
+    ∙ sym (length-append (record_of (plain v)) (records_of (map plain vs)))
 
 -- One record more is written, and none is left.
 pub written_more : (vs : List Wire) (i : ℕ) (v : Wire) (xs ys : List ℕ) (at after : ℕ) → i < length vs → v ≡ get_or vs i v
@@ -111,11 +142,19 @@ pub pins_size_none : (ps : List ℕ) (i : ℕ) → length ps ≤ i → length (p
 pins_size_none ps i past = at_drop_all (λ (qs : List ℕ). length (pin_bytes qs)) ps i past
 
 -- One pin more is written, and none is left.
-pub pins_written : (ps : List ℕ) (i : ℕ) (xs : List ℕ) (at : ℕ) → i < length ps
-    → written_over (set (set xs at (get_or ps i 0 % 256)) (at + 1) (get_or ps i 0 / 256)) (at + 2) (pin_bytes (drop (i + 1) ps)) ≡ written_over xs at (pin_bytes (drop i ps))
-pins_written ps i xs at within =
-    let e : at + 2 ≡ at + 1 + 1 = omega arith in
-    ap (λ (n : ℕ). written_over (set (set xs at (get_or ps i 0 % 256)) (at + 1) (get_or ps i 0 / 256)) n (pin_bytes (drop (i + 1) ps))) e
+pub pins_written : (ps : List ℕ) (i : ℕ) (xs ys bs : List ℕ) (from : ℕ) → i < length ps → get_or ps i 0 < 65536 → from + 2 * i + 2 ≤ length xs
+    → bs ≡ get_or ps i 0 % 256 ∷ get_or ps i 0 / 256 % 256 ∷ [] → ys ≡ bs
+    → written_over (put_mid (from + 2 * i) (from + 2 * i + 2 - (from + 2 * i)) xs ys) (from + 2 * (i + 1)) (pin_bytes (drop (i + 1) ps)) ≡ written_over xs (from + 2 * i) (pin_bytes (drop i ps))
+pins_written ps i xs ys bs from within small fits are same =
+    let p = get_or ps i 0 in
+    let at = from + 2 * i in
+    let two : at + 2 - at ≡ length (p % 256 ∷ p / 256 ∷ []) = omega arith in
+    let next : from + 2 * (i + 1) ≡ at + 1 + 1 = omega arith in
+    let high : p / 256 % 256 ≡ p / 256 = omega arith in
+    let bytes : ys ≡ p % 256 ∷ p / 256 ∷ [] = same ∙ are ∙ ap (λ (n : ℕ). p % 256 ∷ n ∷ []) high in
+    ap (λ (n : ℕ). written_over (put_mid at (at + 2 - at) xs ys) n (pin_bytes (drop (i + 1) ps))) next
+    ∙ ap (λ (zs : List ℕ). written_over (put_mid at (at + 2 - at) xs zs) (at + 1 + 1) (pin_bytes (drop (i + 1) ps))) bytes
+    ∙ ap (λ (zs : List ℕ). written_over zs (at + 1 + 1) (pin_bytes (drop (i + 1) ps))) (part_written xs at (at + 2 - at) (p % 256 ∷ p / 256 ∷ []) two fits)
     ∙ sym (at_drop_more (λ (qs : List ℕ). written_over xs at (pin_bytes qs)) ps i 0 within)
 
 pub pins_written_none : (ps : List ℕ) (i : ℕ) (xs : List ℕ) (at : ℕ) → length ps ≤ i → written_over xs at (pin_bytes (drop i ps)) ≡ xs

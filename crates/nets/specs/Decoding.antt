@@ -7,16 +7,16 @@ use Rattle.nets.specs.Placing.{Request, ask_input, ask_gate}
 use Rattle.nets.specs.Records.{misread, record_length, request_of}
 use Rattle.nets.specs.Tables.{pin_list}
 
--- What a record asks to be placed.
-abbrev pub asks : Record → Request
-asks (Input start changes) = ask_input start changes
-asks (Gate kind pins) = ask_gate kind (pin_list pins)
+-- What a record record_request to be placed.
+abbrev pub record_request : Record → Request
+record_request (Input start changes) = ask_input start changes
+record_request (Gate kind pins) = ask_gate kind (pin_list pins)
 
 -- Why the record that bytes begin with cannot be read, if it cannot.
 abbrev pub misread_of : List ℕ → Option Reason
 misread_of bytes = misread (slice_index bytes 0) (drop 1 bytes)
 
--- An answer about the record that bytes begin with: the record, which asks for what the bytes ask for, and its length; or why it cannot
+-- An answer about the record that bytes begin with: the record, which record_request for what the bytes ask for, and its length; or why it cannot
 -- be read.
 abbrev pub FirstRecord : List ℕ → Result (Record × ℕ) Reason → Type 0
-FirstRecord bytes r = MatchResult r (λ x. (misread_of bytes ≡ None) × (asks x.0 ≡ request_of bytes) × (x.1 ≡ record_length bytes)) (λ e. misread_of bytes ≡ Some e)
+FirstRecord bytes r = MatchResult r (λ x. (misread_of bytes ≡ None) × (record_request x.0 ≡ request_of bytes) × (x.1 ≡ record_length bytes)) (λ e. misread_of bytes ≡ Some e)

@@ -1,5 +1,7 @@
 -- The refusals of a net, by number, and the first of several checks that refuses.
-use Rattle.std.specs.Prelude.{ℕ, Bool, cond, List, [], ◌∷◌, Some, None, Ok, Err, Option, Result}
+use Rattle.std.specs.Prelude.{ℕ, Bool, cond, List, [], ◌∷◌, Some, None, codes, Ok, Err, Option, Result}
+use Rattle.nets.specs.declared.fault.Layer.{Layer}
+use Rattle.nets.specs.declared.fault.Layer.TheVariants.{Input, Record, Algebra, Net}
 use Rattle.nets.specs.declared.fault.NetFault.{NetFault}
 use Rattle.nets.specs.declared.fault.NetFault.TheVariants.{NoSuchWire, BadStart, Full, ShortColumn, BadKind, BadPinCount, HighPin, ShortBuffer}
 
@@ -12,6 +14,13 @@ net_fault_number BadKind = 7
 net_fault_number BadPinCount = 8
 net_fault_number HighPin = 9
 net_fault_number ShortBuffer = 14
+
+-- The name of each layer.
+abbrev pub layer_name : Layer → List ℕ
+layer_name Input = codes "input"
+layer_name Record = codes "record"
+layer_name Algebra = codes "algebra"
+layer_name Net = codes "net"
 
 -- A check: whether it refuses, and with which fault.
 pub record Check : Type 0 where

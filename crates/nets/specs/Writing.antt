@@ -1,16 +1,12 @@
 -- Writing a net out: the bytes of its records, by rising wire number, and what a buffer holds after them.
-use Rattle.std.specs.Prelude.{◌≡◌, ℕ, ◌+◌, ◌*◌, ◌/◌, ◌%◌, ◌≤◌, Bool, true, false, List, [], ◌∷◌, ◌++◌, length, take, drop, Ok, Option, Result, nat_lt, slice_set}
+use Rattle.std.specs.Prelude.{◌≡◌, ℕ, ◌+◌, ◌*◌, ◌/◌, ◌%◌, ◌≤◌, List, [], ◌∷◌, ◌++◌, length, take, drop, Ok, Option, Result, nat_lt, slice_set}
 use Rattle.algebras.specs.Kinds.{kind_number}
+use Rattle.algebras.specs.Letters.{bit}
 use Rattle.nets.specs.declared.fault.NetFault.{NetFault}
 use Rattle.nets.specs.declared.fault.NetFault.TheVariants.{ShortBuffer}
 use Rattle.nets.specs.Faults.{Check, first_fault, unless, settled}
 use Rattle.nets.specs.Records.{reading}
 use Rattle.nets.specs.Wires.{Plain, input, gate}
-
--- The byte of a start.
-abbrev pub start_byte : Bool → ℕ
-start_byte false = 0
-start_byte true = 1
 
 -- The bytes of pins, two for each, low byte first.
 abbrev pub pin_bytes : List ℕ → List ℕ
@@ -23,7 +19,7 @@ gate_byte kind pins = 16 * kind + pins
 
 -- The bytes of a wire's record.
 abbrev pub record_of : Plain → List ℕ
-record_of (input start changes) = 1 ∷ start_byte start ∷ changes ∷ []
+record_of (input start changes) = 1 ∷ bit start ∷ changes ∷ []
 record_of (gate k ps) = gate_byte (kind_number k) (length ps) ∷ pin_bytes ps
 
 -- The bytes of the records of wires, by rising number.

@@ -1,9 +1,11 @@
 //! What a net and a reader refuse.
 
-ghost use Rattle.std.specs.Prelude.{◌≡◌};
-ghost use Rattle.nets.specs.Faults.{net_fault_number};
+ghost use Rattle.std.specs.Prelude.{◌≡◌, Some};
+ghost use Rattle.nets.specs.Faults.{layer_name, net_fault_number};
 ghost use Rattle.nets.specs.Records.{at_place, reason_layer, reason_number, unplaced};
 ghost use Rattle.nets.specs.declared.fault.Reason.TheVariants.{Refused};
+
+use std::fmt;
 
 /// Why a net refuses a call, with the refusal's number.
 #[derive(Clone, Copy, PartialEq, Eq, Debug)]
@@ -42,6 +44,19 @@ pub enum Layer {
     Record,
     Algebra,
     Net,
+}
+
+impl fmt::Display for Layer {
+    ghost output = { λ l. Some (layer_name l) };
+
+    fn fmt<W: fmt::Write>(&self, f: &mut fmt::Formatter<W>) -> fmt::Result {
+        f.write_str(match self {
+            Layer::Input => "input",
+            Layer::Record => "record",
+            Layer::Algebra => "algebra",
+            Layer::Net => "net",
+        })
+    }
 }
 
 /// Why a record is not read: it is none, or the net refuses it.

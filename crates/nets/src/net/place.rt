@@ -11,7 +11,7 @@ ghost use Rattle.nets.specs.Tables.{plain};
 ghost use Rattle.nets.specs.Working.{worked};
 
 use crate::fault::NetFault;
-use crate::net::work::work;
+use crate::net::work::Entries;
 use crate::net::{Net, Table};
 use crate::request::Request;
 use crate::wire::Wire;
@@ -118,8 +118,11 @@ impl<L: Algebra> Net<L> {
         ensures kept { ColumnKept L.Algebra self.old column.old → ColumnKept L.Algebra self.new column.new }
     {
         let number = self.wires();
-        let grade = work(&self.algebra, column, &wire);
-        column[number] = grade;
+        let entries = Entries {
+            algebra: &self.algebra,
+            column,
+        };
+        column[number] = entries.work(&wire);
         self.table.wires.push_reserved(wire);
     }
 }

@@ -45,11 +45,7 @@ fn records_size(wires: &[Wire]) -> usize
     requires { length wires.now ≤ 512 }
     ensures { result ≡ length (records_of (map plain wires.now)) }
 {
-    let mut size = 0;
-    for wire in wires {
-        size += wire_size(wire);
-    }
-    size
+    wires.iter().map(|wire| wire_size(wire)).sum()
 }
 
 // Writes the records of wires to the front of a buffer.
@@ -71,9 +67,8 @@ fn write_record(wire: &Wire, buffer: &mut [u8], at: usize) -> usize
 {
     match wire {
         Wire::Input(drive) => {
-            buffer[at] = INPUT;
-            buffer[at + 1] = drive.start as u8;
-            buffer[at + 2] = drive.changes;
+            let record = [INPUT, u8::from(drive.start), drive.changes];
+            buffer[at..at + 3].copy_from_slice(&record);
             at + 3
         }
         Wire::Output(gate) => {
@@ -90,11 +85,9 @@ fn write_pins(pins: &[u16], buffer: &mut [u8], from: usize) -> usize
     ensures answer { result ≡ from + length (pin_bytes pins.now) }
     ensures buffer { buffer.new ≡ written_over buffer.old from (pin_bytes pins.now) }
 {
-    let mut at = from;
-    for pin in pins {
-        buffer[at] = (*pin % 256) as u8;
-        buffer[at + 1] = (*pin / 256) as u8;
-        at += 2;
+    for (pin, named) in pins.iter().enumerate() {
+        let at = from + 2 * pin;
+        buffer[at..at + 2].copy_from_slice(&named.to_le_bytes());
     }
-    at
+    from + 2 * pins.len()
 }

@@ -1,7 +1,7 @@
 //! Taking records apart.
 
 ghost use Rattle.std.specs.Prelude.{◌≡◌, suc, ◌<◌, length, if◌then◌else◌, Some, None};
-ghost use Rattle.nets.specs.Decoding.{FirstRecord, asks};
+ghost use Rattle.nets.specs.Decoding.{FirstRecord, record_request};
 ghost use Rattle.nets.specs.Faults.{unless};
 ghost use Rattle.nets.specs.Placing.{plain_request};
 ghost use Rattle.nets.specs.Records.{body_size, known, pins_asked, search_high};
@@ -53,9 +53,9 @@ impl Record {
         Ok((record, size))
     }
 
-    // What this record asks to be placed.
+    // What this record record_request to be placed.
     pub(crate) fn request(&self) -> Request<'_>
-        ensures { plain_request result ≡ asks self.now }
+        ensures { plain_request result ≡ record_request self.now }
     {
         match self {
             Record::Input { start, changes } => Request::Input {
@@ -71,7 +71,7 @@ impl Record {
 
     // The wires that the pins of this record name; an input has none.
     fn pins(&self) -> &[u16]
-        ensures { result.now ≡ pins_asked (asks self.now) }
+        ensures { result.now ≡ pins_asked (record_request self.now) }
     {
         match self {
             Record::Input { .. } => &[],

@@ -37,7 +37,7 @@ returns g c =
       exclusives_grades = met.exclusives_grades a;
     } in
     let wires = wires_push (vec_items n.table.wires) (vec_items c.push_reserved.new.self) c.args.wire c.push_reserved.ensures.items in
-    let filled = ap₂ (set c.args.column.now) c.wires-number.ensures c.work-grade.ensures in
+    let filled = ap₂ (set c.args.column.now) c.wires-number.ensures c.work.ensures in
     record {
       net = wires;
       algebra = refl;

@@ -1,4 +1,4 @@
-use Rattle.std.proofs.Common.{◌≡◌, ℕ, ◌+◌, ◌-◌, ◌<◌, ◌≤◌, cond, eqb, length, take, drop, set, Err, unwrap_or, sym, ap, ◌∙◌, arith, rules}
+use Rattle.std.proofs.Common.{◌≡◌, ℕ, ◌+◌, ◌-◌, ◌≤◌, cond, eqb, length, take, drop, set, Err, unwrap_or, sym, ap, ◌∙◌, arith, rules}
 use Rattle.std.proofs.lemmas.List.{take_rest}
 use Rattle.nets.specs.declared.fault.Reason.{Reason}
 use Rattle.nets.specs.declared.fault.ReadFault.{ReadFault}
@@ -6,7 +6,7 @@ use Rattle.nets.specs.Faults.{settled}
 use Rattle.nets.specs.Calls.{reads_in}
 use Rattle.nets.specs.Nets.{ColumnKept, column_after_reading, net_wires, outcome_of_reading}
 use Rattle.nets.specs.Placing.{asked}
-use Rattle.nets.specs.Records.{at_place, column_reading, Outcome, reading, reason_number, reason_of, request_of, search_high}
+use Rattle.nets.specs.Records.{at_place, column_reading, reading, reason_number, reason_of, request_of, search_high}
 use Rattle.nets.specs.Working.{worked}
 use Rattle.nets.proofs.Followed.{goes_on}
 use Rattle.nets.proofs.Outcomes.{mapped_none, mapped_some, placed_whole, turn_none, turn_placed, turn_refused}

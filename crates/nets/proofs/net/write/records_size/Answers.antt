@@ -1,13 +1,11 @@
-use Rattle.std.proofs.Common.{length, ap, arith}
-use Rattle.nets.proofs.Writings.{records_none, size_more}
+use Rattle.std.proofs.Common.{◌≡◌, length, sum_by, ◌∙◌, rules}
+use Rattle.nets.specs.declared.wire.Wire.{Wire}
+use Rattle.nets.specs.Tables.{plain}
+use Rattle.nets.specs.Writing.{record_of}
+use Rattle.nets.proofs.Writings.{all_sizes}
 use Rattle.nets.proofs.net.write.records_size.Goals as goal
-
-pub loop-wire-preserved : goal.loop-wire-preserved
-loop-wire-preserved c =
-    let more = size_more c.args.wires.now c.loop-wire.wire-index c.wire-item.result c.loop-wire-test.true c.wire-item.is in
-    (omega arith, omega arith)
 
 pub returns : goal.returns
 returns c =
-    let none = ap length (records_none c.args.wires.now c.loop-wire.wire-index c.loop-wire-test.false) in
-    omega arith
+    let sizes : c.sum.result ≡ sum_by (λ (v : Wire). length (record_of (plain v))) c.args.wires.now = search rules in
+    sizes ∙ all_sizes c.args.wires.now
