@@ -18,10 +18,10 @@ use Rattle.listing.specs.Listing.{ListsLongest, LongestLines, cap_in, early_refu
 use Rattle.listing.specs.Texts.{InputListed, InputTold, Listed, RecordsListed, RecordsTold, ToldAs}
 
 -- One line more.
-pub lines_more : (cap w : ℕ) (ts : List Transient) (text text' line whole : List ℕ) → w < length ts → line ≡ wire_line cap w (get_or ts w zero_word) → text' ≡ text ++ line
+pub lines_more : (cap w : ℕ) (ts : List Transient) (text text' whole : List ℕ) → w < length ts → text' ≡ text ++ wire_line cap w (get_or ts w zero_word)
     → text ++ wire_lines cap w (drop w ts) ≡ whole → text' ++ wire_lines cap (w + 1) (drop (w + 1) ts) ≡ whole
-lines_more cap w ts text text' line whole within is pushed left =
-    ap (λ x. x ++ wire_lines cap (w + 1) (drop (w + 1) ts)) (pushed ∙ ap (λ x. text ++ x) is)
+lines_more cap w ts text text' whole within written left =
+    ap (λ x. x ++ wire_lines cap (w + 1) (drop (w + 1) ts)) written
     ∙ append_assoc text (wire_line cap w (get_or ts w zero_word)) (wire_lines cap (w + 1) (drop (w + 1) ts))
     ∙ ap (λ (n : ℕ). text ++ (wire_line cap w (get_or ts w zero_word) ++ wire_lines cap n (drop (w + 1) ts))) (add-one w)
     ∙ ap (λ x. text ++ x) (sym (at_drop_more (wire_lines cap w) ts w zero_word within))

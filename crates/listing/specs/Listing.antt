@@ -8,6 +8,7 @@ use Rattle.algebras.specs.Verdicts.{verdict_number, verdict_of}
 use Rattle.nets.specs.declared.fault.Layer.{Layer}
 use Rattle.nets.specs.declared.fault.Layer.TheVariants.{Input, Record, Algebra, Net}
 use Rattle.nets.specs.declared.fault.ReadFault.{ReadFault}
+use Rattle.nets.specs.Faults.{layer_name}
 use Rattle.nets.specs.Records.{Outcome, reading, reason_layer, reason_number}
 use Rattle.nets.specs.Following.{OfLongest}
 use Rattle.nets.specs.Wires.{Plain}
@@ -42,12 +43,6 @@ list_fault_place TooLong = no_place
 list_fault_place NoCap = no_place
 list_fault_place (Cap f) = no_place
 list_fault_place (Read f) = record { offset = f.offset; wire = f.wire; pin = f.pin }
-
-abbrev pub layer_name : Layer → List ℕ
-layer_name Input = codes "input"
-layer_name Record = codes "record"
-layer_name Algebra = codes "algebra"
-layer_name Net = codes "net"
 
 -- The one line of a refusal.
 abbrev pub refused_line : ℕ → Layer → Place → List ℕ

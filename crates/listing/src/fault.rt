@@ -30,7 +30,7 @@ impl ListFault {
         match self {
             ListFault::TooLong => 13,
             ListFault::NoCap => 12,
-            ListFault::Cap(fault) => fault.number(),
+            ListFault::Cap(fault) => u8::from(*fault),
             ListFault::Read(fault) => fault.number(),
         }
     }

@@ -1,26 +1,50 @@
 //! Listing the net that an input holds.
 
-ghost use Rattle.std.specs.Prelude.{◌≡◌, ◌≤◌, false, length, is_some, IfOk, Some, None, string_bytes, MatchResult};
+ghost use Rattle.std.specs.Prelude.{◌≡◌, ◌≤◌, length, IfOk, Some, None, MatchResult};
 ghost use Rattle.listing.specs.Listing.{ListsLongest, cap_in, early_refusal, list_refusal, listing_text, read_in};
+ghost use Rattle.listing.specs.Reports.{report_refusal, report_text};
 ghost use Rattle.listing.specs.Texts.{InputListed, InputTold, RecordsListed, RecordsTold};
 
 use crate::fault::{Fault, ListFault};
-use crate::text::{net_text, refused_line};
+use crate::text::Kept;
 use algebras::algebra::Algebra;
 use algebras::counted::Counted;
 use algebras::counted::grade::CountedGrade;
 use nets::call::{Answer, Call};
 use nets::net::play::replay;
 use std::alloc::{AllocError, Global};
+use std::fmt;
 
 /// The most bytes that an input may have.
 pub const MOST: usize = 16384;
 
-/// What is printed for an input, and whether the input is refused.
+/// What is told of an input: its listing, or why there is none.
 #[derive(Drop)]
-pub struct Report {
-    pub text: String,
-    pub refused: bool,
+pub enum Report {
+    Listing(String),
+    Refusal(ListFault),
+}
+
+impl fmt::Display for Report {
+    ghost use Rattle.listing.specs.Reports.{report_text};
+
+    ghost output = { λ r. Some (report_text r) };
+
+    /// Prints the listing, or the one line of the refusal.
+    fn fmt<W: fmt::Write>(&self, f: &mut fmt::Formatter<W>) -> fmt::Result {
+        match self {
+            Report::Listing(text) => f.write_str(text.as_str()),
+            Report::Refusal(fault) => {
+                let number = fault.number();
+                let layer = fault.layer();
+                let (offset, wire, pin) = match fault {
+                    ListFault::Read(fault) => (fault.offset, fault.wire, fault.pin),
+                    _ => (0, 0, 0),
+                };
+                writeln!(f, "refused {number} {layer} {offset} {wire} {pin}")
+            }
+        }
+    }
 }
 
 // The algebra with the cap that an input begins with.
@@ -33,7 +57,7 @@ fn algebra_of(input: &[u8]) -> Result<Counted, ListFault>
     if input.len() < 2 {
         return Err(ListFault::NoCap);
     }
-    let cap = input[0] as u16 + 256 * input[1] as u16;
+    let cap = u16::from_le_bytes([input[0], input[1]]);
     Ok(Counted::new(cap)?)
 }
 
@@ -49,10 +73,15 @@ fn records_text(
 {
     let played = replay(heap, algebra, column, &[Call::Read(records)])?;
     let [Answer::Read(read)] = played.answers.as_slice() else {
-        return unreachable();
+        unreachable!()
     };
     (*read)?;
-    Ok(net_text(heap, &algebra, &played.net, column)?)
+    let kept = Kept {
+        algebra: &algebra,
+        net: &played.net,
+        column,
+    };
+    Ok(kept.text(heap)?)
 }
 
 // The text of the net that an input holds.
@@ -66,24 +95,15 @@ fn input_text(heap: Global, input: &[u8]) -> Result<String, Fault>
     records_text(heap, algebra, column.as_mut_slice(), &input[2..])
 }
 
-/// The text that is printed for an input: its listing, or the line of its refusal.
+/// Lists the net that an input holds, or answers why it is refused. The report prints as the text for the input.
 pub fn list(heap: Global, input: &[u8]) -> Result<Report, AllocError>
-    ensures text { IfOk result (λ p. string_bytes p.text ≡ listing_text input.now) }
-    ensures refused { IfOk result (λ p. p.refused ≡ is_some (list_refusal input.now)) }
-    ensures longest { IfOk result (λ p. (p.refused ≡ false → ListsLongest (cap_in input.now) (read_in input.now).wires (string_bytes p.text))) }
+    ensures text { IfOk result (λ r. report_text r ≡ listing_text input.now) }
+    ensures refused { IfOk result (λ r. report_refusal r ≡ list_refusal input.now) }
+    ensures longest { IfOk result (λ r. (report_refusal r ≡ None → ListsLongest (cap_in input.now) (read_in input.now).wires (report_text r))) }
 {
     match input_text(heap, input) {
-        Ok(text) => Ok(Report {
-            text,
-            refused: false,
-        }),
+        Ok(text) => Ok(Report::Listing(text)),
         Err(Fault::Memory) => Err(AllocError),
-        Err(Fault::Refused(fault)) => {
-            let text = refused_line(heap, &fault)?;
-            Ok(Report {
-                text,
-                refused: true,
-            })
-        }
+        Err(Fault::Refused(fault)) => Ok(Report::Refusal(fault)),
     }
 }

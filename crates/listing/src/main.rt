@@ -8,21 +8,17 @@ mod list;
 mod tests;
 mod text;
 
-use crate::list::{MOST, list};
+use crate::list::{MOST, Report, list};
 use std::io::{Read, Write};
 use std::process::ExitCode;
 
-fn run(rt: &HostRuntime) -> anyhow::Result<ExitCode> {
+fn main(rt: HostRuntime) -> anyhow::Result<ExitCode> {
     let mut input = Vec::new(rt.alloc());
     rt.stdin().take(MOST as u64 + 1).read_to_end(&mut input)?;
     let report = list(rt.alloc(), input.as_slice())?;
-    rt.print(report.text.as_str())?;
-    if report.refused {
-        return Ok(ExitCode::FAILURE);
-    }
-    Ok(ExitCode::SUCCESS)
-}
-
-fn main(rt: HostRuntime) -> anyhow::Result<ExitCode> {
-    run(&rt)
+    rt.print(&report)?;
+    Ok(match report {
+        Report::Listing(_) => ExitCode::SUCCESS,
+        Report::Refusal(_) => ExitCode::FAILURE,
+    })
 }

@@ -1,6 +1,6 @@
 //! Listings and refusals, byte for byte.
 
-use crate::list::list;
+use crate::list::{Report, list};
 use std::test::Fail;
 
 /// An input, what is printed for it, and whether it is refused.
@@ -132,8 +132,8 @@ const CASES: [Case; 22] = [
 fn cases(rt: HostRuntime) -> Result<(), Fail> {
     for case in CASES.iter() {
         let report = list(rt.alloc(), case.input)?;
-        assert_eq!(rt; report.text.as_str(), case.text);
-        assert_eq!(rt; report.refused, case.refused);
+        assert_eq!(rt; format!(in rt.alloc(); "{report}")?.as_str(), case.text);
+        assert_eq!(rt; matches!(report, Report::Refusal(_)), case.refused);
     }
     Ok(())
 }
@@ -152,10 +152,16 @@ fn long_input(rt: &HostRuntime, bytes: usize) -> Result<Vec<u8>, Fail> {
 #[test]
 fn long_inputs(rt: HostRuntime) -> Result<(), Fail> {
     let longest = list(rt.alloc(), long_input(&rt, 16_384)?.as_slice())?;
-    assert_eq!(rt; longest.text.as_str(), "refused 5 net 1536 512 0\n");
+    assert_eq!(rt;
+        format!(in rt.alloc(); "{longest}")?.as_str(),
+        "refused 5 net 1536 512 0\n"
+    );
     let too_long = list(rt.alloc(), long_input(&rt, 16_385)?.as_slice())?;
-    assert_eq!(rt; too_long.text.as_str(), "refused 13 input 0 0 0\n");
+    assert_eq!(rt;
+        format!(in rt.alloc(); "{too_long}")?.as_str(),
+        "refused 13 input 0 0 0\n"
+    );
     let full = list(rt.alloc(), long_input(&rt, 1538)?.as_slice())?;
-    assert_eq!(rt; full.refused, false);
+    assert_eq!(rt; matches!(full, Report::Refusal(_)), false);
     Ok(())
 }

@@ -21,17 +21,6 @@ any_or p (x ∷ xs) = ap (λ (b : Bool). p x || b) (any_or p xs)
 abbrev pub high_from : ℕ → List ℕ → ℕ → Bool
 high_from w ps i = or_of (map (leb w) (drop i ps))
 
--- The i-th pin does, or it is the others that decide.
-pub high_here : (w : ℕ) (ps : List ℕ) (i : ℕ) → i < length ps → w ≤ get_or ps i 0 → high_from w ps i ≡ true
-high_here w ps i within high =
-    at_drop_more (λ (qs : List ℕ). or_of (map (leb w) qs)) ps i 0 within
-    ∙ ap (λ (b : Bool). b || high_from w ps (i + 1)) (le-leb w (get_or ps i 0) high)
-
-pub high_later : (w : ℕ) (ps : List ℕ) (i : ℕ) → i < length ps → get_or ps i 0 < w → high_from w ps (i + 1) ≡ high_from w ps i
-high_later w ps i within low =
-    sym (at_drop_more (λ (qs : List ℕ). or_of (map (leb w) qs)) ps i 0 within
-    ∙ ap (λ (b : Bool). b || high_from w ps (i + 1)) (lt-leb w (get_or ps i 0) low))
-
 -- No pin is left.
 pub high_none : (w : ℕ) (ps : List ℕ) (i : ℕ) → length ps ≤ i → high_from w ps i ≡ false
 high_none w ps i past = at_drop_all (λ (qs : List ℕ). or_of (map (leb w) qs)) ps i past
@@ -80,14 +69,3 @@ gate_passes o k w ps qs kind_is few low pins_are =
 pub gate_high : (o : Option Kind) (k : Kind) (w : ℕ) (ps : List ℕ) → o ≡ Some k → pins_allowed k (length ps) ≡ true → or_of (map (leb w) ps) ≡ true
     → cond (not (is_some o)) (Some BadKind) (cond (not (count_allowed o (length ps))) (Some BadPinCount) (cond (or_of (map (leb w) ps)) (Some HighPin) None)) ≡ Some HighPin
 gate_high o k w ps kind_is few high = rw (kind_is, few, high)
-
--- The place of the first pin too high, from the i-th pin on.
-pub first_here : (w : ℕ) (ps : List ℕ) (i : ℕ) → i < length ps → w ≤ get_or ps i 0 → first_high w (drop i ps) ≡ 0
-first_here w ps i within high =
-    at_drop_more (first_high w) ps i 0 within
-    ∙ ap (λ (b : Bool). cond b 0 (suc (first_high w (drop (i + 1) ps)))) (le-leb w (get_or ps i 0) high)
-
-pub first_later : (w : ℕ) (ps : List ℕ) (i : ℕ) → i < length ps → get_or ps i 0 < w → first_high w (drop i ps) ≡ suc (first_high w (drop (i + 1) ps))
-first_later w ps i within low =
-    at_drop_more (first_high w) ps i 0 within
-    ∙ ap (λ (b : Bool). cond b 0 (suc (first_high w (drop (i + 1) ps)))) (lt-leb w (get_or ps i 0) low)

@@ -67,9 +67,6 @@ record_admitted ws long bytes q read asks admitted =
 pub input_pins : (bytes : List ℕ) → get_or bytes 0 0 ≡ 1 → pins_asked (request_of bytes) ≡ []
 input_pins bytes kind = ap pins_asked (input_request bytes kind)
 
-pub gate_pins : (bytes : List ℕ) (size : ℕ) → (get_or bytes 0 0 ≡ 1 → ⊥) → record_length bytes ≡ size → pins_in (take (size - 1) (drop 1 bytes)) ≡ pins_asked (request_of bytes)
-gate_pins bytes size kind long = sym (ap pins_asked (gate_request bytes size kind long))
-
 -- A body has 30 bytes at most.
 pub body_small : (b : ℕ) → body_size b ≤ 30
 body_small b = go (is_input b)
@@ -115,39 +112,6 @@ search_goes_on n (b ∷ bs) some read few high =
         → cond (x || y) None (cond z (Some (first_high n (pins_asked (request_at b bs)))) (search_high (body_size b) (suc n) bs)) ≡ search_high (body_size b) (suc n) bs
     goes {x} {y} {z} p q r = rw (p, q, r)
 
--- A kind that is no record's, and a body that is cut, cannot be read.
-pub unknown_from : (b : Bool) (r : Reason) → cond b None (Some UnknownKind) ≡ Some r → b ≡ false
-unknown_from true r e = absurd (let z : ◌≡◌ {A = ℕ} 0 1 = cc in omega arith)
-unknown_from false r e = refl
-
-pub misread_unknown : (bytes : List ℕ) → known (get_or bytes 0 0) ≡ false → misread (get_or bytes 0 0) (drop 1 bytes) ≡ Some UnknownKind
-misread_unknown bytes e = ap (λ (k : Bool). cond (not k) (Some UnknownKind) (cond (ltb (length (drop 1 bytes)) (body_size (get_or bytes 0 0))) (Some CutShort) None)) e
-
-pub misread_cut : (bytes : List ℕ) (size : ℕ) → known (get_or bytes 0 0) ≡ true → record_length bytes ≡ size → length bytes < size → misread (get_or bytes 0 0) (drop 1 bytes) ≡ Some CutShort
-misread_cut bytes size kind long short =
-    let body : length (drop 1 bytes) < body_size (get_or bytes 0 0) ⊎ (length bytes ≡ 0) = lacks bytes long short in
-    ⊎_elim cut none body
-  where
-    lacks : (bytes : List ℕ) → record_length bytes ≡ size → length bytes < size → (length (drop 1 bytes) < body_size (get_or bytes 0 0)) ⊎ (length bytes ≡ 0)
-    lacks [] p q = inr refl
-    lacks (b ∷ bs) p q = inl (omega arith)
-
-    passes : {x y : Bool} → x ≡ true → y ≡ true → cond (not x) (Some UnknownKind) (cond y (Some CutShort) None) ≡ Some CutShort
-    passes {x} {y} p q = rw (p, q)
-
-    cut : length (drop 1 bytes) < body_size (get_or bytes 0 0) → misread (get_or bytes 0 0) (drop 1 bytes) ≡ Some CutShort
-    cut h = passes kind (lt-ltb (length (drop 1 bytes)) (body_size (get_or bytes 0 0)) h)
-
-    none : length bytes ≡ 0 → misread (get_or bytes 0 0) (drop 1 bytes) ≡ Some CutShort
-    none h = go bytes h kind
-      where
-        go : (bytes : List ℕ) → length bytes ≡ 0 → known (get_or bytes 0 0) ≡ true → misread (get_or bytes 0 0) (drop 1 bytes) ≡ Some CutShort
-        go [] h k = absurd (let z : ◌≡◌ {A = ℕ} 0 1 = cc in omega arith)
-        go (b ∷ bs) h k = absurd (omega arith)
-
 -- The bytes from a record on.
 pub rest_length : (bytes : List ℕ) (at : ℕ) → length (take (length bytes - at) (drop at bytes)) ≡ length bytes - at
 rest_length bytes at = ap length (take_rest bytes at) ∙ length-drop at bytes
-
-pub rest_drop : (bytes : List ℕ) (at size : ℕ) → drop size (take (length bytes - at) (drop at bytes)) ≡ drop (at + size) bytes
-rest_drop bytes at size = ap (drop size) (take_rest bytes at) ∙ drop-drop size at bytes

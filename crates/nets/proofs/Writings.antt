@@ -132,15 +132,6 @@ written_more vs i v xs ys at after within read writes ends =
 pub written_none : (vs : List Wire) (i : ℕ) (xs : List ℕ) (at : ℕ) → length vs ≤ i → written_over xs at (records_from vs i) ≡ xs
 written_none vs i xs at past = ap (written_over xs at) (records_none vs i past)
 
--- The size of one pin more, and of none.
-pub pins_size_more : (ps : List ℕ) (i : ℕ) → i < length ps → length (pin_bytes (drop i ps)) ≡ length (pin_bytes (drop (i + 1) ps)) + 2
-pins_size_more ps i within =
-    let more = at_drop_more (λ (qs : List ℕ). length (pin_bytes qs)) ps i 0 within in
-    omega arith
-
-pub pins_size_none : (ps : List ℕ) (i : ℕ) → length ps ≤ i → length (pin_bytes (drop i ps)) ≡ 0
-pins_size_none ps i past = at_drop_all (λ (qs : List ℕ). length (pin_bytes qs)) ps i past
-
 -- One pin more is written, and none is left.
 pub pins_written : (ps : List ℕ) (i : ℕ) (xs ys bs : List ℕ) (from : ℕ) → i < length ps → get_or ps i 0 < 65536 → from + 2 * i + 2 ≤ length xs
     → bs ≡ get_or ps i 0 % 256 ∷ get_or ps i 0 / 256 % 256 ∷ [] → ys ≡ bs
@@ -156,9 +147,6 @@ pins_written ps i xs ys bs from within small fits are same =
     ∙ ap (λ (zs : List ℕ). written_over (put_mid at (at + 2 - at) xs zs) (at + 1 + 1) (pin_bytes (drop (i + 1) ps))) bytes
     ∙ ap (λ (zs : List ℕ). written_over zs (at + 1 + 1) (pin_bytes (drop (i + 1) ps))) (part_written xs at (at + 2 - at) (p % 256 ∷ p / 256 ∷ []) two fits)
     ∙ sym (at_drop_more (λ (qs : List ℕ). written_over xs at (pin_bytes qs)) ps i 0 within)
-
-pub pins_written_none : (ps : List ℕ) (i : ℕ) (xs : List ℕ) (at : ℕ) → length ps ≤ i → written_over xs at (pin_bytes (drop i ps)) ≡ xs
-pins_written_none ps i xs at past = at_drop_all (λ (qs : List ℕ). written_over xs at (pin_bytes qs)) ps i past
 
 -- A buffer that is long enough is not refused, and a shorter one is.
 pub buffer_passes : (ws : List Plain) (long : ℕ) → length (records_of ws) ≤ long → writing_refusal ws long ≡ None

@@ -7,10 +7,10 @@ use Rattle.listing.specs.Listing.{ListsLongest, late_refusal, net_text}
 use Rattle.listing.proofs.Lines.{text_lists}
 use Rattle.listing.proofs.list.records_text.Goals as goal
 
-pub net_text-requires : goal.net_text-requires
-net_text-requires c =
+pub invariant_of-kept : goal.invariant_of-kept
+invariant_of-kept c =
     let played = c.in_ok-played.ensures in
-    record { algebra = played.algebra; kept = followed ghosts _ _ _ played.follows }
+    record { own = played.algebra; kept = followed ghosts _ _ _ played.follows }
 
 pub returns : goal.returns
 returns c =
@@ -18,5 +18,5 @@ returns c =
     let wires = c.in_ok-played.ensures.follows.wires in
     let ws = (reading (length c.args.column.now) 0 0 0 [] c.args.records.now).wires in
     let lists = text_lists c.args.algebra.«cap» ws (subst Lower wires c.in_ok-played.played.net.lower) in
-    let text = c.in_ok-net_text.ensures ∙ ap (net_text c.args.algebra.«cap») wires in
+    let text = c.in_ok-text.ensures ∙ ap (net_text c.args.algebra.«cap») wires in
     record { told = (ap late_refusal (answer ∙ c.in_ok-read.was), text); longest = subst (ListsLongest c.args.algebra.«cap» ws) (sym text) lists }
