@@ -156,7 +156,7 @@ impl Algebra for Counted {
     }
 
     fn same(&self, x: CountedGrade, y: CountedGrade) -> bool {
-        x.start == y.start && x.end == y.end && self.count(x) == self.count(y)
+        self.read(x) == self.read(y)
     }
 }
 
