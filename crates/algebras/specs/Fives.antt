@@ -9,7 +9,7 @@ use Rattle.algebras.specs.Transient.{Transient, end_of, complement}
 use Rattle.algebras.specs.Sums.{sum2, product2, exclusive2}
 use Rattle.algebras.specs.Five.{symbol_code, all_symbols, symbol_of, symbol_by, symbol_for, symbol_word, stands_for, five, pair_place}
 use Rattle.algebras.specs.SumsLemmas.{bit_small, Moves, word_counted, all_deducted, moving_sum, sum_swap, exclusive_swap}
-use Rattle.algebras.specs.Counts.{sum_one_right, sum_zero_right}
+use Rattle.algebras.specs.Counting.{sum_one_right, sum_zero_right}
 
 -- Whether each symbol of a list passes a test.
 abbrev pub each : (Symbol → Bool) → List Symbol → Bool
