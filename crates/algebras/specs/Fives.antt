@@ -36,13 +36,11 @@ follows op table = each (λ s. each (entry_follows op table s) all_symbols) all_
 
 -- Then it has the grade of what the operation makes of any two entries.
 pub table_rule : (op : Transient → Transient → Transient) (table : List ℕ) → follows op table ≡ true
-    → (x y : FiveGrade) (i : ℕ) → i ≡ pair_place (symbol_of x) (symbol_of y) → record { code = slice_index table i } ≡ five (op (stands_for x) (stands_for y))
-table_rule op table p x y i e =
+    → (x y : FiveGrade) → record { code = slice_index table (pair_place (symbol_of x) (symbol_of y)) } ≡ five (op (stands_for x) (stands_for y))
+table_rule op table p x y =
     let row = at_each (λ s. each (entry_follows op table s) all_symbols) p (symbol_of x) in
     let here = at_each (entry_follows op table (symbol_of x)) row (symbol_of y) in
-    ap (λ (n : ℕ). record { code = n })
-    (ap (λ (k : ℕ). slice_index table k) e
-    ∙ eqb-true (slice_index table (pair_place (symbol_of x) (symbol_of y))) (symbol_code (symbol_for (op (stands_for x) (stands_for y)))) here)
+    ap (λ (n : ℕ). record { code = n }) (eqb-true (slice_index table (pair_place (symbol_of x) (symbol_of y))) (symbol_code (symbol_for (op (stands_for x) (stands_for y)))) here)
 
 -- A symbol's code is read as the symbol.
 pub code_read : (s : Symbol) → symbol_of (record { code = symbol_code s }) ≡ s
