@@ -30,13 +30,11 @@ pub record LongestFor (f : List Bool → Bool) (G : List Transient → Transient
 
 -- A letter does not differ from itself.
 pub differ_self : (b : Bool) → differ b b ≡ false
-differ_self true = refl
-differ_self false = refl
+differ_self b = grind arith
 
 -- A letter differs from its flip.
 pub differ_not : (b : Bool) → differ (not b) b ≡ true
-differ_not true = refl
-differ_not false = refl
+differ_not b = grind arith
 
 -- If n flips give the value, an output that made m ≤ n changes has made no more than n once it has answered.
 pub answer_within : (b v : Bool) (m n : ℕ) → flipped b n ≡ v → m ≤ n → cond (differ v (flipped b m)) (suc m) m ≤ n
@@ -108,12 +106,6 @@ heard_bounded r h =
 pub same_heard : {f : List Bool → Bool} {xs gs hs : List Transient} {m n lost : ℕ} → gs ≡ hs → m ≡ n → HeardTo f xs gs m lost → HeardTo f xs hs n lost
 same_heard {f} {xs} {gs} {hs} {m} {n} {lost} p q h =
     subst (λ k. HeardTo f xs hs k lost) q (subst (λ ts. HeardTo f xs ts m lost) p h)
-
--- What a gate comes to, it comes to as well where its wires go on to change.
-pub heard_wider : {f : List Bool → Bool} {xs ys hs : List Transient} {made lost : ℕ} → Prefixes xs ys → HeardTo f xs hs made lost → HeardTo f ys hs made lost
-heard_wider p rests = same_heard (sym (rest_same p)) refl rests
-heard_wider p (arrives i h l) = let k = prefixes_at i p in arrives i (heard_wider p h) (omega arith)
-heard_wider p (loses i h l) = let k = prefixes_at i p in loses i (heard_wider p h) (omega arith)
 
 module _ {f : List Bool → Bool} {G : List Transient → Transient} (r : LongestFor f G) (xs : List Transient) where
   -- Where no change is heard, all changes are made at rest.

@@ -1,15 +1,15 @@
 -- Counting changes up to a cap: what is known of transients, by their starts, ends and counts, decides every operation.
 use Rattle.std.specs.Prelude.{◌≡◌, ℕ, zero, suc, ◌+◌, ◌-◌, ◌*◌, ◌%◌, ◌≤◌, min, Bool, true, false, not, ◌&&◌, ◌||◌, [], ◌∷◌, ◌==◌, refl}
 use Rattle.std.proofs.Common.{sym, ap, ◌∙◌, arith}
-use Rattle.std.specs.Cmp.{both_ways}
 use mir.Val.{bool_byte}
-use Rattle.std.proofs.lemmas.Bool.{eqb-true, eqb-false, eq-eqb}
+use Rattle.std.proofs.Math.Bool.{or-false}
+use Rattle.std.proofs.lemmas.Bool.Decides.{nat_tests}
 use Rattle.algebras.specs.Transient.{Transient, flipped, end_of, complement, zero_word, one_word}
 use Rattle.algebras.specs.Sums.{sum2, product2, exclusive2}
 use Rattle.algebras.specs.Letters.{bit, differ}
 use Rattle.algebras.specs.Verdicts.{verdict_by, verdict_of}
 use Rattle.algebras.specs.Words.{same_transient, complement_end}
-use Rattle.algebras.specs.SumsLemmas.{bit_small, same_bit, flipped_parity, word_counted, moving_sum, sum_single, sum_swap, sum_end, or_false, differ_false, exclusive_end}
+use Rattle.algebras.specs.SumsLemmas.{bit_small, same_bit, flipped_parity, word_counted, moving_sum, sum_single, sum_swap, sum_end, differ_false, exclusive_end}
 
 -- What is known of a transient under a cap: its start, its end, and its changes up to the cap.
 pub record Known (cap : ℕ) (t : Transient) (s e : Bool) (n : ℕ) : Type 0 where
@@ -52,17 +52,11 @@ sum_zero_right t = sum_swap t zero_word [] ∙ sum_single t
 
 -- A deduction for two letters is one where both are 1.
 pub two_deducted : (a b : Bool) → bit a + (bit b + 0) - 1 ≡ bit (a && b)
-two_deducted true true = refl
-two_deducted true false = refl
-two_deducted false true = refl
-two_deducted false false = refl
+two_deducted a b = grind arith
 
 -- Two letters count together at most as each alone.
 pub both_small : (a b : Bool) → (bit (a && b) ≤ bit a) × (bit (a && b) ≤ bit b)
-both_small true true = (omega arith, omega arith)
-both_small true false = (omega arith, omega arith)
-both_small false true = (omega arith, omega arith)
-both_small false false = (omega arith, omega arith)
+both_small a b = (grind arith, grind arith)
 
 -- Counting up to the cap loses nothing of a sum's changes, in numbers.
 pub capped_sum : (cap A B m n d e : ℕ) → 2 ≤ cap → d ≤ 1 → e ≤ 1 → d + e ≤ A → d + e ≤ B → min A cap ≡ min m cap → min B cap ≡ min n cap
@@ -87,8 +81,8 @@ moving_known {cap} h x y m n p q i j =
     ∙ ap (λ (k : ℕ). ((x.changes + (y.changes + 0)) - k) - (bit (end_of x) + (bit (end_of y) + 0) - 1)) (two_deducted x.start y.start)
     ∙ ap (λ (k : ℕ). ((x.changes + (y.changes + 0)) - d) - k) (two_deducted (end_of x) (end_of y)) in
     record {
-      starts = ap (λ (r : Transient). r.start) sum_is ∙ ap (λ (b : Bool). x.start || b) (or_false y.start);
-      ends = sum_end (x ∷ y ∷ []) ∙ ap (λ (b : Bool). end_of x || b) (or_false (end_of y));
+      starts = ap (λ (r : Transient). r.start) sum_is ∙ ap (λ (b : Bool). x.start || b) (or-false y.start);
+      ends = sum_end (x ∷ y ∷ []) ∙ ap (λ (b : Bool). end_of x || b) (or-false (end_of y));
       counts = ap (λ (c : ℕ). min c cap) changes_are ∙ capped_sum cap x.changes y.changes m n d e h (bit_small (x.start && y.start)) (bit_small (end_of x && end_of y)) (fits cx a.0 b.0) (fits cy a.1 b.1) p q;
     }
   where
@@ -153,16 +147,6 @@ product_decided cap h s e m t f n =
 pub exclusive_decided : (cap : ℕ) → Decided cap exclusive2
 exclusive_decided cap s e m t f n = (differ s t, differ e f, m + n, λ x y p q. known_exclusive p q)
 
--- A test of numbers is that of others that are equal exactly then.
-pub same_test : (a b c d : ℕ) → (a ≡ b → c ≡ d) → (c ≡ d → a ≡ b) → (a == b) ≡ (c == d)
-same_test a b c d p q = both_ways (a == b) (c == d) (λ e. eq-eqb c d (p (eqb-true a b e))) (λ e. eq-eqb a b (q (eqb-true c d e)))
-
--- What is known of a transient decides its verdict.
-pub known_verdict : {cap : ℕ} → 2 ≤ cap → {t : Transient} {s e : Bool} {n : ℕ} → Known cap t s e n → verdict_of t ≡ verdict_by s e n
-known_verdict h {t} {n} k =
-    let c = k.counts in
-    rw (← k.starts, ← k.ends, same_test t.changes 1 n 1 (λ p. omega arith) (λ p. omega arith), same_test t.changes 0 n 0 (λ p. omega arith) (λ p. omega arith)) refl
-
 -- An algebra that counts up to a cap.
 module _ {cap : ℕ} {Entry : Type 0} {makes : Bool → Bool → ℕ → Entry} {stands_for : Entry → Transient} (laws : CountingLaws cap makes stands_for) where
   -- What is known decides the entry.
@@ -195,35 +179,14 @@ module _ {cap : ℕ} {Entry : Type 0} {makes : Bool → Bool → ℕ → Entry} 
   pub entry_exclusive : (s t : Transient) → entry_of makes (exclusive2 (stands_for (entry_of makes s)) (stands_for (entry_of makes t))) ≡ entry_of makes (exclusive2 s t)
   entry_exclusive = entry_operation exclusive2 (exclusive_decided cap)
 
-  -- and the verdict on what the entry stands for is that on the transient.
-  pub entry_verdict : (t : Transient) → verdict_of (stands_for (entry_of makes t)) ≡ verdict_of t
-  entry_verdict t = known_verdict laws.two (laws.known t) ∙ sym (known_verdict laws.two (itself_known cap t))
-
 -- Twice a half, and one more with unequal ends, flips the start into the end.
 pub flipped_pairs : (s e : Bool) (h : ℕ) → flipped s (2 * h + bit (differ s e)) ≡ e
-flipped_pairs s e h = same_bit _ e (ends s e (flipped_parity s (2 * h + bit (differ s e))))
-  where
-    ends : (s e : Bool) → (q : ℕ) × ((2 * h + bit (differ s e)) + bit s ≡ bit (flipped s (2 * h + bit (differ s e))) + 2 * q) → bit (flipped s (2 * h + bit (differ s e))) ≡ bit e
-    ends true true p = let k = bit_small (flipped true (2 * h + 0)) in omega arith
-    ends true false p = let k = bit_small (flipped true (2 * h + 1)) in omega arith
-    ends false true p = let k = bit_small (flipped false (2 * h + 1)) in omega arith
-    ends false false p = let k = bit_small (flipped false (2 * h + 0)) in omega arith
+flipped_pairs s e h = let p = flipped_parity s (2 * h + bit (differ s e)) in grind arith
 
 -- The end of a drive, from whether its changes are odd.
 pub driven_end : (s : Bool) (n : ℕ) → flipped s n ≡ differ s (n % 2 == 1)
-driven_end s n = by s (flipped s n) (n % 2 == 1) refl (flipped_parity s n)
-  where
-    by : (s e o : Bool) → (n % 2 == 1) ≡ o → (q : ℕ) × (n + bit s ≡ bit e + 2 * q) → e ≡ differ s o
-    by true true true p q = let k = eqb-true (n % 2) 1 p in absurd (omega arith)
-    by true true false p q = refl
-    by true false true p q = refl
-    by true false false p q = let k = eqb-false (n % 2) 1 p in absurd (k (omega arith))
-    by false true true p q = refl
-    by false true false p q = let k = eqb-false (n % 2) 1 p in absurd (k (omega arith))
-    by false false true p q = let k = eqb-true (n % 2) 1 p in absurd (omega arith)
-    by false false false p q = refl
+driven_end s n = let p = flipped_parity s n in grind (arith, nat_tests)
 
 -- A letter as the code's number.
 pub byte_bit : (b : Bool) → bool_byte b ≡ bit b
-byte_bit true = refl
-byte_bit false = refl
+byte_bit b = grind arith

@@ -1,33 +1,21 @@
 -- The eight-valued algebra: a grade says the start, the end and the smaller of the changes and 2.
 use Rattle.std.specs.Prelude.{◌≡◌, ℕ, zero, suc, ◌+◌, ◌*◌, ◌<◌, ◌≤◌, min, Bool, true, false, nat_lt, refl}
 use Rattle.std.proofs.Common.{sym, ap, ◌∙◌, ⊎_elim, arith}
-use Rattle.std.proofs.lemmas.Bool.{cases_lt, lt-ltb, le-ltb}
+use Rattle.std.proofs.lemmas.Bool.Decides.{nat_tests}
 use Rattle.algebras.specs.declared.eight.EightGrade.{EightGrade}
 use Rattle.algebras.specs.Transient.{Transient, flipped, end_of}
 use Rattle.algebras.specs.Letters.{bit, differ}
-use Rattle.algebras.specs.Eight.{of_changes, eight, stands_for, count_of}
+use Rattle.algebras.specs.Eight.{of_changes, eight, stands_for}
+use Rattle.algebras.specs.SumsLemmas.{flipped_parity}
 use Rattle.algebras.specs.Counting.{CountingLaws, flipped_pairs}
 
 -- Numbers that are the same up to 2 are more than one, or not, alike.
 pub same_more : (m n : ℕ) → min m 2 ≡ min n 2 → nat_lt 1 m ≡ nat_lt 1 n
-same_more m n e = ⊎_elim above below (cases_lt 1 m)
-  where
-    above : 1 < m → nat_lt 1 m ≡ nat_lt 1 n
-    above l = lt-ltb 1 m l ∙ sym (lt-ltb 1 n (omega arith))
-
-    below : m ≤ 1 → nat_lt 1 m ≡ nat_lt 1 n
-    below l = le-ltb 1 m l ∙ sym (le-ltb 1 n (omega arith))
+same_more m n e = grind (arith, nat_tests)
 
 -- The count of a transient's grade is the smaller of its changes and 2.
-pub grade_count : (t : Transient) → count_of (eight t) ≡ min t.changes 2
-grade_count t = go t.start t.changes
-  where
-    go : (s : Bool) (n : ℕ) → min (2 * bit (nat_lt 1 n) + bit (differ s (flipped s n))) 2 ≡ min n 2
-    go true zero = refl
-    go false zero = refl
-    go true (suc zero) = refl
-    go false (suc zero) = refl
-    go s (suc (suc n)) = let more = ap bit (lt-ltb 1 (suc (suc n)) (omega arith)) in omega arith
+pub grade_count : (t : Transient) → min (stands_for (eight t)).changes 2 ≡ min t.changes 2
+grade_count t = let p = flipped_parity t.start t.changes in grind (arith, nat_tests)
 
 -- An entry stands for a transient with its end.
 pub stands_end : (x : EightGrade) → end_of (stands_for x) ≡ x.«end»
