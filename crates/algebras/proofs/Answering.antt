@@ -6,6 +6,7 @@ use Rattle.algebras.specs.Sums.{starts, ends, total_changes, FollowsFunction}
 use Rattle.algebras.specs.Letters.{differ}
 use Rattle.algebras.specs.Hearing.{hears, changes_at, answered, HeardTo}
 use Rattle.algebras.specs.Hearing.HeardTo.{rests, arrives, loses}
+use Rattle.algebras.specs.SumsLemmas.{flipped_parity}
 use Rattle.algebras.proofs.Prefixes.{Prefixes, prefixes_self, rest_prefixes, hears_prefixes, prefixes_hear, changes_at_hears, prefixes_at, prefixes_join, prefixes_rest, rest_same, hears_total}
 
 -- A change that can be heard last: at this pin, after what was heard before.
@@ -28,37 +29,13 @@ pub record LongestFor (f : List Bool → Bool) (G : List Transient → Transient
   pub within : (hs : List Transient) → (G hs).changes ≤ total_changes hs
   pub heard_last : (hs : List Transient) → 1 ≤ total_changes hs → HeardLast (λ ts. (G ts).changes) hs
 
--- A letter does not differ from itself.
-pub differ_self : (b : Bool) → differ b b ≡ false
-differ_self b = grind arith
-
--- A letter differs from its flip.
-pub differ_not : (b : Bool) → differ (not b) b ≡ true
-differ_not b = grind arith
-
 -- If n flips give the value, an output that made m ≤ n changes has made no more than n once it has answered.
 pub answer_within : (b v : Bool) (m n : ℕ) → flipped b n ≡ v → m ≤ n → cond (differ v (flipped b m)) (suc m) m ≤ n
-answer_within b v m n e l =
-    elim (cases_eq m n) [
-      | inl q ↦
-          let d : differ v (flipped b m) ≡ false = rw (q, e) (differ_self v) in
-          rw d l
-      | inr q ↦ cond_both (differ v (flipped b m)) (suc m) m (λ x. x ≤ n) (λ _. omega arith) (λ _. l)
-    ]
+answer_within b v m n e l = grind arith
 
 -- If n flips give the value and m is n or one less, an output that made m changes has made n once it has answered.
 pub answer_exact : (b v : Bool) (m n : ℕ) → flipped b n ≡ v → m ≤ n → n ≤ suc m → cond (differ v (flipped b m)) (suc m) m ≡ n
-answer_exact b v m n e l u =
-    elim (cases_eq m n) [
-      | inl q ↦
-          let d : differ v (flipped b m) ≡ false = rw (q, e) (differ_self v) in
-          rw d q
-      | inr q ↦
-          let s : n ≡ suc m = omega arith in
-          let w : not (flipped b m) ≡ v = rw s at e in
-          let d : differ v (flipped b m) ≡ true = rw (← w) (differ_not (flipped b m)) in
-          rw d (sym s)
-    ]
+answer_exact b v m n e l u = let p = flipped_parity b m in let q = flipped_parity b n in grind arith
 
 module _ {f : List Bool → Bool} {G : List Transient → Transient} (r : LongestFor f G) where
   -- An output that has made no more changes than the transient of what was heard still has made no more once it has answered

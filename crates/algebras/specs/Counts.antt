@@ -11,17 +11,12 @@ use Rattle.algebras.specs.Counted.{of_changes, counted, said, count_of, is_satur
 use Rattle.algebras.specs.SumsLemmas.{flipped_parity}
 use Rattle.algebras.specs.Counting.{Known, CountingLaws, flipped_pairs}
 
--- Half of the changes, doubled, and one more with unequal ends, are the changes.
-pub half_back : (s : Bool) (n : ℕ) → 2 * (n / 2) + bit (differ s (flipped s n)) ≡ n
-half_back s n = let p = flipped_parity s n in grind arith
-
--- The changes that a count stands for flip the start into the end.
-pub flipped_to : (s e : Bool) (n : ℕ) → flipped s (n + bit (differ (flipped s n) e)) ≡ e
-flipped_to s e n = let p = flipped_parity s n in let q = flipped_parity s (n + bit (differ (flipped s n) e)) in grind arith
-
 -- An entry stands for a transient with its end.
 pub stands_end : (cap : ℕ) (g : CountedGrade) → end_of (stands_for cap g) ≡ g.«end»
-stands_end cap g = flipped_to g.start g.«end» (count_of cap g)
+stands_end cap g =
+    let p = flipped_parity g.start (count_of cap g) in
+    let q = flipped_parity g.start (stands_for cap g).changes in
+    grind arith
 
 -- An entry stands for a transient that counts as it does.
 pub stands_count : (cap : ℕ) (g : CountedGrade) → min (stands_for cap g).changes cap ≡ count_of cap g
@@ -33,11 +28,7 @@ stands_count cap g = by g.«count» (count_of cap g) refl
 
 -- The count of a transient's grade is the smaller of its changes and the cap.
 pub grade_count : (cap : ℕ) (t : Transient) → count_of cap (counted cap t) ≡ min t.changes cap
-grade_count cap t = let p = half_back t.start t.changes in grind (arith, nat_tests)
-
--- Numbers that are the same up to the cap make the same grade.
-pub of_changes_capped : (cap : ℕ) (s e : Bool) (m n : ℕ) → min m cap ≡ min n cap → of_changes cap s e m ≡ of_changes cap s e n
-of_changes_capped cap s e m n p = grind (arith, nat_tests)
+grade_count cap t = let p = flipped_parity t.start t.changes in grind (arith, nat_tests)
 
 -- What is known of the transient that an entry stands for.
 pub stands_known : (cap : ℕ) (x : CountedGrade) → Known cap (stands_for cap x) x.start x.«end» (count_of cap x)
@@ -47,7 +38,7 @@ stands_known cap x = record { starts = refl; ends = stands_end cap x; counts = l
 pub counted_laws : (cap : ℕ) → 2 ≤ cap → CountingLaws cap (of_changes cap) (stands_for cap)
 counted_laws cap h = record {
   two = h;
-  capped = of_changes_capped cap;
+  capped = λ s e m n p. grind (arith, nat_tests);
   known = λ t. record { starts = refl; ends = stands_end cap (counted cap t); counts = stands_count cap (counted cap t) ∙ grade_count cap t };
 }
 

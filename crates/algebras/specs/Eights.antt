@@ -9,10 +9,6 @@ use Rattle.algebras.specs.Eight.{of_changes, eight, stands_for}
 use Rattle.algebras.specs.SumsLemmas.{flipped_parity}
 use Rattle.algebras.specs.Counting.{CountingLaws, flipped_pairs}
 
--- Numbers that are the same up to 2 are more than one, or not, alike.
-pub same_more : (m n : ℕ) → min m 2 ≡ min n 2 → nat_lt 1 m ≡ nat_lt 1 n
-same_more m n e = grind (arith, nat_tests)
-
 -- The count of a transient's grade is the smaller of its changes and 2.
 pub grade_count : (t : Transient) → min (stands_for (eight t)).changes 2 ≡ min t.changes 2
 grade_count t = let p = flipped_parity t.start t.changes in grind (arith, nat_tests)
@@ -25,6 +21,6 @@ stands_end x = flipped_pairs x.start x.«end» (bit x.more)
 pub eight_laws : CountingLaws 2 of_changes stands_for
 eight_laws = record {
   two = omega arith;
-  capped = λ s e m n p. ap (λ (b : Bool). record { start = s; «end» = e; more = b }) (same_more m n p);
+  capped = λ s e m n p. grind (arith, nat_tests);
   known = λ t. record { starts = refl; ends = stands_end (eight t); counts = grade_count t };
 }
