@@ -1,13 +1,13 @@
 -- Both theorems of one gate that hears, for any Boolean function and any transient of its pins that have what is needed.
-use Rattle.std.proofs.Common.{◌≡◌, ℕ, zero, suc, ◌<◌, ◌≤◌, Bool, true, false, cond, not, List, sym, refl, ap, subst, inl, inr, arith}
-use Rattle.std.proofs.lemmas.Bool.{cases_eq, cases_lt, cond_both}
+use Rattle.std.proofs.Common.{◌≡◌, ℕ, zero, suc, ◌<◌, ◌≤◌, Bool, cond, List, sym, refl, ap, subst, inl, inr, arith}
+use Rattle.std.proofs.lemmas.Bool.{cases_lt}
 use Rattle.algebras.specs.Transient.{Transient, flipped}
 use Rattle.algebras.specs.Sums.{starts, ends, total_changes, FollowsFunction}
 use Rattle.algebras.specs.Letters.{differ}
 use Rattle.algebras.specs.Hearing.{hears, changes_at, answered, HeardTo}
 use Rattle.algebras.specs.Hearing.HeardTo.{rests, arrives, loses}
 use Rattle.algebras.specs.SumsLemmas.{flipped_parity}
-use Rattle.algebras.proofs.Prefixes.{Prefixes, prefixes_self, rest_prefixes, hears_prefixes, prefixes_hear, changes_at_hears, prefixes_at, prefixes_join, prefixes_rest, rest_same, hears_total}
+use Rattle.algebras.proofs.Prefixes.{Prefixes, prefixes_self, rest_prefixes, hears_prefixes, prefixes_hear, changes_at_hears, prefixes_at, prefixes_join, prefixes_rest, hears_total}
 
 -- A change that can be heard last: at this pin, after what was heard before.
 pub record LastChange (hs : List Transient) : Type 0 where

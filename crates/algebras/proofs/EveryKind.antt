@@ -2,8 +2,8 @@
 use Rattle.std.proofs.Common.{◌≡◌, ℕ, ◌≤◌, List}
 use Rattle.algebras.specs.declared.kind.Kind.{Kind}
 use Rattle.algebras.specs.declared.kind.Kind.TheVariants.{Buffer, Inverter, And, Or, Xor, Nand, Nor, Xnor}
-use Rattle.algebras.specs.Transient.{Transient, end_of}
-use Rattle.algebras.specs.Sums.{starts, ends, total_changes, product}
+use Rattle.algebras.specs.Transient.{Transient}
+use Rattle.algebras.specs.Sums.{starts, product}
 use Rattle.algebras.specs.Letters.{and_of}
 use Rattle.algebras.specs.Kinds.{gate_function, gate_transient}
 use Rattle.algebras.specs.Hearing.{answered, LongestWordOfAGate}

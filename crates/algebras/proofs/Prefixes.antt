@@ -1,9 +1,9 @@
 -- Lists of transients of which each is a prefix of another's.
-use Rattle.std.proofs.Common.{◌≡◌, ℕ, zero, suc, ◌+◌, ◌<◌, ◌≤◌, not, List, [], ◌∷◌, map, length, get_or, set, refl, ap, ◌∙◌, arith}
+use Rattle.std.proofs.Common.{◌≡◌, ℕ, zero, suc, ◌+◌, ◌<◌, ◌≤◌, not, List, [], ◌∷◌, map, refl, ap, ◌∙◌, arith}
 use Rattle.algebras.specs.Transient.{Transient, complement}
 use Rattle.algebras.specs.Sums.{starts, total_changes}
 use Rattle.algebras.specs.Words.{same_transient, complement_involution}
-use Rattle.algebras.specs.Hearing.{at_rest, longer, hears, changes_at}
+use Rattle.algebras.specs.Hearing.{at_rest, hears, changes_at}
 
 -- Each transient of the first list is a prefix of the second list's: the same start, and no more changes.
 pub data Prefixes : List Transient → List Transient → Type 0 where

@@ -1,5 +1,5 @@
 -- Counting changes up to a cap: what is known of transients, by their starts, ends and counts, decides every operation.
-use Rattle.std.specs.Prelude.{◌≡◌, ℕ, zero, suc, ◌+◌, ◌-◌, ◌*◌, ◌%◌, ◌≤◌, min, Bool, true, false, not, ◌&&◌, ◌||◌, [], ◌∷◌, ◌==◌, refl}
+use Rattle.std.specs.Prelude.{◌≡◌, ℕ, zero, suc, ◌+◌, ◌-◌, ◌%◌, ◌≤◌, min, Bool, true, false, not, ◌&&◌, ◌||◌, [], ◌∷◌, ◌==◌, refl}
 use Rattle.std.proofs.Common.{sym, ap, ◌∙◌, arith}
 use mir.Val.{bool_byte}
 use Rattle.std.proofs.Math.Bool.{or-false}
@@ -7,9 +7,8 @@ use Rattle.std.proofs.lemmas.Bool.Decides.{nat_tests}
 use Rattle.algebras.specs.Transient.{Transient, flipped, end_of, complement, zero_word, one_word}
 use Rattle.algebras.specs.Sums.{sum2, product2, exclusive2}
 use Rattle.algebras.specs.Letters.{bit, differ}
-use Rattle.algebras.specs.Verdicts.{verdict_by, verdict_of}
 use Rattle.algebras.specs.Words.{same_transient, complement_end}
-use Rattle.algebras.specs.SumsLemmas.{bit_small, same_bit, flipped_parity, word_counted, moving_sum, sum_single, sum_swap, sum_end, differ_false, exclusive_end}
+use Rattle.algebras.specs.SumsLemmas.{flipped_parity, word_counted, moving_sum, sum_single, sum_swap, sum_end, differ_false, exclusive_end}
 
 -- What is known of a transient under a cap: its start, its end, and its changes up to the cap.
 pub record Known (cap : ℕ) (t : Transient) (s e : Bool) (n : ℕ) : Type 0 where
@@ -50,18 +49,11 @@ sum_one_right t = sum_swap t one_word []
 pub sum_zero_right : (t : Transient) → sum2 t zero_word ≡ t
 sum_zero_right t = sum_swap t zero_word [] ∙ sum_single t
 
--- A deduction for two letters is one where both are 1.
-pub two_deducted : (a b : Bool) → bit a + (bit b + 0) - 1 ≡ bit (a && b)
-two_deducted a b = grind arith
-
--- Two letters count together at most as each alone.
-pub both_small : (a b : Bool) → (bit (a && b) ≤ bit a) × (bit (a && b) ≤ bit b)
-both_small a b = (grind arith, grind arith)
-
--- Counting up to the cap loses nothing of a sum's changes, in numbers.
-pub capped_sum : (cap A B m n d e : ℕ) → 2 ≤ cap → d ≤ 1 → e ≤ 1 → d + e ≤ A → d + e ≤ B → min A cap ≡ min m cap → min B cap ≡ min n cap
-    → min ((A + (B + 0)) - d - e) cap ≡ min ((m + n) - (d + e)) cap
-capped_sum cap A B m n d e h i j k l p q = omega arith
+-- Counting up to the cap loses nothing of a sum's changes, in numbers: A and B changes that count m and n, of words that start with a
+-- and c and end with b and d.
+pub capped_sum : (cap A B m n : ℕ) (a b c d : Bool) → 2 ≤ cap → bit a + bit b ≤ A → bit c + bit d ≤ B → min A cap ≡ min m cap → min B cap ≡ min n cap
+    → min ((A + (B + 0)) - (bit a + (bit c + 0) - 1) - (bit b + (bit d + 0) - 1)) cap ≡ min ((m + n) - (bit (a && c) + bit (b && d))) cap
+capped_sum cap A B m n a b c d h i j p q = grind arith
 
 -- The sum of two transients that move, by their starts and ends, and by numbers that are their changes up to the cap.
 pub moving_known : {cap : ℕ} → 2 ≤ cap → (x y : Transient) (m n : ℕ) → min x.changes cap ≡ min m cap → min y.changes cap ≡ min n cap → 1 ≤ m → 1 ≤ n
@@ -72,22 +64,11 @@ moving_known {cap} h x y m n p q i j =
     let cx = (word_counted x.start x.changes mx).enough in
     let cy = (word_counted y.start y.changes my).enough in
     let sum_is = moving_sum (x ∷ y ∷ []) (mx, (my, tt)) in
-    let a = both_small x.start y.start in
-    let b = both_small (end_of x) (end_of y) in
-    let d : ℕ = bit (x.start && y.start) in
-    let e : ℕ = bit (end_of x && end_of y) in
-    let changes_are : (sum2 x y).changes ≡ ((x.changes + (y.changes + 0)) - d) - e =
-    ap (λ (r : Transient). r.changes) sum_is
-    ∙ ap (λ (k : ℕ). ((x.changes + (y.changes + 0)) - k) - (bit (end_of x) + (bit (end_of y) + 0) - 1)) (two_deducted x.start y.start)
-    ∙ ap (λ (k : ℕ). ((x.changes + (y.changes + 0)) - d) - k) (two_deducted (end_of x) (end_of y)) in
     record {
       starts = ap (λ (r : Transient). r.start) sum_is ∙ ap (λ (b : Bool). x.start || b) (or-false y.start);
       ends = sum_end (x ∷ y ∷ []) ∙ ap (λ (b : Bool). end_of x || b) (or-false (end_of y));
-      counts = ap (λ (c : ℕ). min c cap) changes_are ∙ capped_sum cap x.changes y.changes m n d e h (bit_small (x.start && y.start)) (bit_small (end_of x && end_of y)) (fits cx a.0 b.0) (fits cy a.1 b.1) p q;
+      counts = ap (λ (r : Transient). min r.changes cap) sum_is ∙ capped_sum cap x.changes y.changes m n x.start (end_of x) y.start (end_of y) h cx cy p q;
     }
-  where
-    fits : {a b c d e : ℕ} → a + b ≤ c → d ≤ a → e ≤ b → d + e ≤ c
-    fits p q r = omega arith
 
 -- What is known of two moving transients decides what is known of their sum.
 pub known_moving_sum : {cap : ℕ} → 2 ≤ cap → (x y : Transient) {s e : Bool} {m : ℕ} {t f : Bool} {n : ℕ}
@@ -114,22 +95,10 @@ Decided cap op = (s e : Bool) (m : ℕ) (t f : Bool) (n : ℕ)
 
 -- It decides their sum,
 pub sum_decided : (cap : ℕ) → 2 ≤ cap → Decided cap sum2
-sum_decided cap h true e zero t f n = (true, true, 0, λ x y p q. first x y p)
-  where
-    first : (x y : Transient) → Known cap x true e 0 → Known cap (sum2 x y) true true 0
-    first x y p = rw (known_constant h p) (itself_known cap one_word)
-sum_decided cap h false e zero t f n = (t, f, n, λ x y p q. second x y p q)
-  where
-    second : (x y : Transient) → Known cap x false e 0 → Known cap y t f n → Known cap (sum2 x y) t f n
-    second x y p q = rw (known_constant h p, sum_single y) q
-sum_decided cap h s e (suc m) true f zero = (true, true, 0, λ x y p q. second x y q)
-  where
-    second : (x y : Transient) → Known cap y true f 0 → Known cap (sum2 x y) true true 0
-    second x y q = rw (known_constant h q, sum_one_right x) (itself_known cap one_word)
-sum_decided cap h s e (suc m) false f zero = (s, e, suc m, λ x y p q. first x y p q)
-  where
-    first : (x y : Transient) → Known cap x s e (suc m) → Known cap y false f 0 → Known cap (sum2 x y) s e (suc m)
-    first x y p q = rw (known_constant h q, sum_zero_right x) p
+sum_decided cap h true e zero t f n = (true, true, 0, λ x y p q. rw (known_constant h p) (itself_known cap one_word))
+sum_decided cap h false e zero t f n = (t, f, n, λ x y p q. rw (known_constant h p, sum_single y) q)
+sum_decided cap h s e (suc m) true f zero = (true, true, 0, λ x y p q. rw (known_constant h q, sum_one_right x) (itself_known cap one_word))
+sum_decided cap h s e (suc m) false f zero = (s, e, suc m, λ x y p q. rw (known_constant h q, sum_zero_right x) p)
 sum_decided cap h s e (suc m) t f (suc n) = (
   s || t,
   e || f,
@@ -151,7 +120,7 @@ exclusive_decided cap s e m t f n = (differ s t, differ e f, m + n, λ x y p q. 
 module _ {cap : ℕ} {Entry : Type 0} {makes : Bool → Bool → ℕ → Entry} {stands_for : Entry → Transient} (laws : CountingLaws cap makes stands_for) where
   -- What is known decides the entry.
   pub known_entry : {t : Transient} {s e : Bool} {n : ℕ} → Known cap t s e n → entry_of makes t ≡ makes s e n
-  known_entry {t} {s} {e} {n} k = laws.capped t.start (end_of t) t.changes n k.counts ∙ ap (λ (b : Bool). makes b (end_of t) n) k.starts ∙ ap (λ (b : Bool). makes s b n) k.ends
+  known_entry {t} {n} k = rw (← k.starts, ← k.ends) (laws.capped t.start (end_of t) t.changes n k.counts)
 
   -- What a transient's entry stands for has that entry,
   pub entry_stands : (t : Transient) → entry_of makes (stands_for (entry_of makes t)) ≡ entry_of makes t
@@ -169,7 +138,7 @@ module _ {cap : ℕ} {Entry : Type 0} {makes : Bool → Bool → ℕ → Entry} 
       known_entry (d.3 (stands_for (entry_of makes s)) (stands_for (entry_of makes t)) (laws.known s) (laws.known t))
       ∙ sym (known_entry (d.3 s t (itself_known cap s) (itself_known cap t)))
 
-  -- as of the sum, the product and the exclusive sum,
+  -- as the sum, the product and the exclusive sum have.
   pub entry_sum : (s t : Transient) → entry_of makes (sum2 (stands_for (entry_of makes s)) (stands_for (entry_of makes t))) ≡ entry_of makes (sum2 s t)
   entry_sum = entry_operation sum2 (sum_decided cap laws.two)
 
@@ -178,10 +147,6 @@ module _ {cap : ℕ} {Entry : Type 0} {makes : Bool → Bool → ℕ → Entry} 
 
   pub entry_exclusive : (s t : Transient) → entry_of makes (exclusive2 (stands_for (entry_of makes s)) (stands_for (entry_of makes t))) ≡ entry_of makes (exclusive2 s t)
   entry_exclusive = entry_operation exclusive2 (exclusive_decided cap)
-
--- Twice a half, and one more with unequal ends, flips the start into the end.
-pub flipped_pairs : (s e : Bool) (h : ℕ) → flipped s (2 * h + bit (differ s e)) ≡ e
-flipped_pairs s e h = let p = flipped_parity s (2 * h + bit (differ s e)) in grind arith
 
 -- The end of a drive, from whether its changes are odd.
 pub driven_end : (s : Bool) (n : ℕ) → flipped s n ≡ differ s (n % 2 == 1)

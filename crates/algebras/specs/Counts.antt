@@ -1,15 +1,15 @@
 -- The counted algebra: a grade says the start, the end and the smaller of the changes and the cap.
-use Rattle.std.specs.Prelude.{◌≡◌, ℕ, suc, ◌+◌, ◌*◌, ◌/◌, ◌<◌, ◌≤◌, min, Bool, true, false, cond, not, ◌&&◌, ◌==◌, nat_le, nat_lt, refl}
-use Rattle.std.proofs.Common.{sym, ap, ◌∙◌, ⊎_elim, arith}
+use Rattle.std.specs.Prelude.{◌≡◌, ℕ, ◌+◌, ◌≤◌, min, true, refl}
+use Rattle.std.proofs.Common.{sym, ap, ◌∙◌, arith}
 use Rattle.std.proofs.lemmas.Bool.Decides.{nat_tests}
 use Rattle.algebras.specs.declared.counted.grade.Count.{Count}
 use Rattle.algebras.specs.declared.counted.grade.Count.TheVariants.{Half, Saturated}
 use Rattle.algebras.specs.declared.counted.grade.CountedGrade.{CountedGrade}
 use Rattle.algebras.specs.Transient.{Transient, flipped, end_of}
 use Rattle.algebras.specs.Letters.{bit, differ}
-use Rattle.algebras.specs.Counted.{of_changes, counted, said, count_of, is_saturated, stands_for, counted_read, counted_alike}
+use Rattle.algebras.specs.Counted.{of_changes, counted, said, count_of, stands_for, counted_read, counted_alike}
 use Rattle.algebras.specs.SumsLemmas.{flipped_parity}
-use Rattle.algebras.specs.Counting.{Known, CountingLaws, flipped_pairs}
+use Rattle.algebras.specs.Counting.{Known, CountingLaws}
 
 -- An entry stands for a transient with its end.
 pub stands_end : (cap : ℕ) (g : CountedGrade) → end_of (stands_for cap g) ≡ g.«end»

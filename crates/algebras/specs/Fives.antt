@@ -1,7 +1,7 @@
 -- The five-valued algebra: a table of codes follows an operation where one test says so, and a symbol decides every operation.
 use Rattle.std.specs.Prelude.{◌≡◌, ℕ, zero, suc, ◌≤◌, Bool, true, false, ◌&&◌, ◌⊎◌, List, [], ◌∷◌, ◌==◌, slice_index, refl}
 use Rattle.std.proofs.Common.{sym, ap, ◌∙◌, inl, inr, ⊎_elim, arith}
-use Rattle.std.proofs.lemmas.Bool.{eqb-true, and_parts}
+use Rattle.std.proofs.lemmas.Bool.{eqb-true}
 use Rattle.algebras.specs.declared.five.Symbol.{Symbol}
 use Rattle.algebras.specs.declared.five.Symbol.TheVariants.{Zero, One, Rise, Fall, Half}
 use Rattle.algebras.specs.declared.five.FiveGrade.{FiveGrade}
@@ -18,13 +18,11 @@ each test (s ∷ ss) = test s && each test ss
 
 -- A test that all symbols pass is passed by every one.
 pub at_each : (test : Symbol → Bool) → each test all_symbols ≡ true → (s : Symbol) → test s ≡ true
-at_each test p s =
-    let a = and_parts (test Zero) (each test (One ∷ Rise ∷ Fall ∷ Half ∷ [])) p in
-    let b = and_parts (test One) (each test (Rise ∷ Fall ∷ Half ∷ [])) a.1 in
-    let c = and_parts (test Rise) (each test (Fall ∷ Half ∷ [])) b.1 in
-    let d = and_parts (test Fall) (each test (Half ∷ [])) c.1 in
-    let e = and_parts (test Half) true d.1 in
-    elim s as (λ v. test v ≡ true) [ Zero ↦ a.0 | One ↦ b.0 | Rise ↦ c.0 | Fall ↦ d.0 | Half ↦ e.0 ]
+at_each test p Zero = grind arith
+at_each test p One = grind arith
+at_each test p Rise = grind arith
+at_each test p Fall = grind arith
+at_each test p Half = grind arith
 
 -- Whether a table has, for two symbols, the code of what an operation makes of their words,
 abbrev pub entry_follows : (Transient → Transient → Transient) → List ℕ → Symbol → Symbol → Bool

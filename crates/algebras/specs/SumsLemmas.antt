@@ -1,9 +1,9 @@
 -- Sums, products and exclusive sums: how they are joined, and what they start and end with.
-use Rattle.std.specs.Prelude.{◌≡◌, ℕ, zero, suc, ◌+◌, ◌-◌, ◌*◌, ◌≤◌, min, Bool, true, false, cond, not, ◌&&◌, ◌||◌, List, [], ◌∷◌, map, length, ◌==◌, refl}
+use Rattle.std.specs.Prelude.{◌≡◌, ℕ, zero, suc, ◌+◌, ◌-◌, ◌*◌, ◌≤◌, min, Bool, true, false, cond, not, ◌&&◌, ◌||◌, List, [], ◌∷◌, map, length, refl}
 use Rattle.std.proofs.Common.{sym, ap, ◌∙◌, zero-add, suc-add, arith}
-use Rattle.std.proofs.Math.Bool.{not-not, or-false}
+use Rattle.std.proofs.Math.Bool.{or-false}
 use Rattle.std.proofs.lemmas.Bool.Decides.{nat_tests}
-use Rattle.std.proofs.lemmas.Bool.{eqb-true, eqb-false, ne_eqb, and_parts, and_right, or_parts, or_right, or_from, cond-true, cond-false}
+use Rattle.std.proofs.lemmas.Bool.{or_parts, or_right, or_from, cond-true, cond-false}
 use Rattle.algebras.specs.Transient.{Transient, flipped, end_of, complement, zero_word, one_word, is_zero, is_one}
 use Rattle.algebras.specs.Sums.{starts, ends, total_changes, without_zeros, deduction, sum_changes, sum_of_rest, sum, product, exclusive, joined, Joins, SumsOfTransients}
 use Rattle.algebras.specs.Letters.{or_of, and_of, differ, xor_of, bit, ones}

@@ -3,7 +3,7 @@
 ghost use Rattle.std.specs.Prelude.{◌≡◌, ◌<◌, ◌≤◌, min, MatchResult, nat_le};
 ghost use Rattle.algebras.specs.Counted.{of_changes, counted, count_of, is_saturated, stands_for, cap_fault_number};
 ghost use Rattle.algebras.specs.Counted.{counted_read, counted_complement, counted_sum, counted_product, counted_exclusive, counted_alike};
-ghost use Rattle.algebras.specs.Transient.{Transient, end_of};
+ghost use Rattle.algebras.specs.Transient.{Transient};
 ghost use Rattle.algebras.specs.Verdicts.{verdict_of};
 ghost use Rattle.algebras.specs.Counting.{entry_stands, entry_complement, entry_sum, entry_product, entry_exclusive};
 ghost use Rattle.algebras.specs.Counts.{counted_laws, read_apart, alike_parts};

@@ -1,6 +1,5 @@
 //! What the eight-valued algebra does.
 
-ghost use Rattle.std.specs.Prelude.{◌≡◌};
 ghost use Rattle.algebras.specs.Eight.{of_changes, eight, stands_for};
 ghost use Rattle.algebras.specs.Eight.{eight_read, eight_complement, eight_sum, eight_product, eight_exclusive, eight_alike};
 ghost use Rattle.algebras.specs.Verdicts.{verdict_of};
