@@ -1,12 +1,13 @@
 -- Both theorems of one gate that hears, for any Boolean function and any transient of its pins that have what is needed.
-use Rattle.std.proofs.Common.{◌≡◌, ℕ, zero, suc, ◌<◌, ◌≤◌, Bool, true, false, cond, not, List, sym, refl, ap, subst, inl, inr, arith}
-use Rattle.std.proofs.lemmas.Bool.{cases_eq, cases_lt, cond_both}
+use Rattle.std.proofs.Common.{◌≡◌, ℕ, zero, suc, ◌<◌, ◌≤◌, Bool, cond, List, sym, refl, ap, subst, inl, inr, arith}
+use Rattle.std.proofs.lemmas.Bool.{cases_lt}
 use Rattle.algebras.specs.Transient.{Transient, flipped}
 use Rattle.algebras.specs.Sums.{starts, ends, total_changes, FollowsFunction}
 use Rattle.algebras.specs.Letters.{differ}
 use Rattle.algebras.specs.Hearing.{hears, changes_at, answered, HeardTo}
 use Rattle.algebras.specs.Hearing.HeardTo.{rests, arrives, loses}
-use Rattle.algebras.proofs.Prefixes.{Prefixes, prefixes_self, rest_prefixes, hears_prefixes, prefixes_hear, changes_at_hears, prefixes_at, prefixes_join, prefixes_rest, rest_same, hears_total}
+use Rattle.algebras.specs.SumsLemmas.{flipped_parity}
+use Rattle.algebras.proofs.Prefixes.{Prefixes, prefixes_self, rest_prefixes, hears_prefixes, prefixes_hear, changes_at_hears, prefixes_at, prefixes_join, prefixes_rest, hears_total}
 
 -- A change that can be heard last: at this pin, after what was heard before.
 pub record LastChange (hs : List Transient) : Type 0 where
@@ -28,39 +29,13 @@ pub record LongestFor (f : List Bool → Bool) (G : List Transient → Transient
   pub within : (hs : List Transient) → (G hs).changes ≤ total_changes hs
   pub heard_last : (hs : List Transient) → 1 ≤ total_changes hs → HeardLast (λ ts. (G ts).changes) hs
 
--- A letter does not differ from itself.
-pub differ_self : (b : Bool) → differ b b ≡ false
-differ_self true = refl
-differ_self false = refl
-
--- A letter differs from its flip.
-pub differ_not : (b : Bool) → differ (not b) b ≡ true
-differ_not true = refl
-differ_not false = refl
-
 -- If n flips give the value, an output that made m ≤ n changes has made no more than n once it has answered.
 pub answer_within : (b v : Bool) (m n : ℕ) → flipped b n ≡ v → m ≤ n → cond (differ v (flipped b m)) (suc m) m ≤ n
-answer_within b v m n e l =
-    elim (cases_eq m n) [
-      | inl q ↦
-          let d : differ v (flipped b m) ≡ false = rw (q, e) (differ_self v) in
-          rw d l
-      | inr q ↦ cond_both (differ v (flipped b m)) (suc m) m (λ x. x ≤ n) (λ _. omega arith) (λ _. l)
-    ]
+answer_within b v m n e l = grind arith
 
 -- If n flips give the value and m is n or one less, an output that made m changes has made n once it has answered.
 pub answer_exact : (b v : Bool) (m n : ℕ) → flipped b n ≡ v → m ≤ n → n ≤ suc m → cond (differ v (flipped b m)) (suc m) m ≡ n
-answer_exact b v m n e l u =
-    elim (cases_eq m n) [
-      | inl q ↦
-          let d : differ v (flipped b m) ≡ false = rw (q, e) (differ_self v) in
-          rw d q
-      | inr q ↦
-          let s : n ≡ suc m = omega arith in
-          let w : not (flipped b m) ≡ v = rw s at e in
-          let d : differ v (flipped b m) ≡ true = rw (← w) (differ_not (flipped b m)) in
-          rw d (sym s)
-    ]
+answer_exact b v m n e l u = let p = flipped_parity b m in let q = flipped_parity b n in grind arith
 
 module _ {f : List Bool → Bool} {G : List Transient → Transient} (r : LongestFor f G) where
   -- An output that has made no more changes than the transient of what was heard still has made no more once it has answered
@@ -108,12 +83,6 @@ heard_bounded r h =
 pub same_heard : {f : List Bool → Bool} {xs gs hs : List Transient} {m n lost : ℕ} → gs ≡ hs → m ≡ n → HeardTo f xs gs m lost → HeardTo f xs hs n lost
 same_heard {f} {xs} {gs} {hs} {m} {n} {lost} p q h =
     subst (λ k. HeardTo f xs hs k lost) q (subst (λ ts. HeardTo f xs ts m lost) p h)
-
--- What a gate comes to, it comes to as well where its wires go on to change.
-pub heard_wider : {f : List Bool → Bool} {xs ys hs : List Transient} {made lost : ℕ} → Prefixes xs ys → HeardTo f xs hs made lost → HeardTo f ys hs made lost
-heard_wider p rests = same_heard (sym (rest_same p)) refl rests
-heard_wider p (arrives i h l) = let k = prefixes_at i p in arrives i (heard_wider p h) (omega arith)
-heard_wider p (loses i h l) = let k = prefixes_at i p in loses i (heard_wider p h) (omega arith)
 
 module _ {f : List Bool → Bool} {G : List Transient → Transient} (r : LongestFor f G) (xs : List Transient) where
   -- Where no change is heard, all changes are made at rest.

@@ -2,8 +2,8 @@
 use Rattle.std.proofs.Common.{◌≡◌, ℕ, ◌≤◌, List}
 use Rattle.algebras.specs.declared.kind.Kind.{Kind}
 use Rattle.algebras.specs.declared.kind.Kind.TheVariants.{Buffer, Inverter, And, Or, Xor, Nand, Nor, Xnor}
-use Rattle.algebras.specs.Transient.{Transient, end_of}
-use Rattle.algebras.specs.Sums.{starts, ends, total_changes, product}
+use Rattle.algebras.specs.Transient.{Transient}
+use Rattle.algebras.specs.Sums.{starts, product}
 use Rattle.algebras.specs.Letters.{and_of}
 use Rattle.algebras.specs.Kinds.{gate_function, gate_transient}
 use Rattle.algebras.specs.Hearing.{answered, LongestWordOfAGate}
@@ -32,17 +32,9 @@ gate_longest Xnor = complemented_longest exclusive_longest
 pub gate_start : (k : Kind) (xs : List Transient) → (gate_transient k xs).start ≡ gate_function k (starts xs)
 gate_start k = (gate_longest k).follows.at_start
 
--- A gate's transient ends as its function says.
-pub gate_end : (k : Kind) (xs : List Transient) → end_of (gate_transient k xs) ≡ gate_function k (ends xs)
-gate_end k = (gate_longest k).follows.at_end
-
 -- A gate's changes grow with what its pins have heard.
 pub gate_grows : (k : Kind) {hs xs : List Transient} → Prefixes hs xs → (gate_transient k hs).changes ≤ (gate_transient k xs).changes
 gate_grows k = (gate_longest k).grows
-
--- A gate has no more changes than its pins in all.
-pub gate_within : (k : Kind) (hs : List Transient) → (gate_transient k hs).changes ≤ total_changes hs
-gate_within k = (gate_longest k).within
 
 -- An output within the transient of what its pins had heard is within that of what they hear now, once it has answered.
 pub gate_answer_kept : (k : Kind) {hs xs : List Transient} → Prefixes hs xs → (made : ℕ) → made ≤ (gate_transient k hs).changes

@@ -1,10 +1,11 @@
 -- The changes of a sum: how they grow with what the pins have heard, and which change can be heard last.
 use Rattle.std.proofs.Common.{◌≡◌, ℕ, zero, suc, ◌+◌, ◌-◌, ◌≤◌, Bool, true, false, cond, not, ◌&&◌, eqb, ◌⊎◌, List, [], ◌∷◌, map, sym, refl, ap, ◌∙◌, inl, inr, arith}
-use Rattle.std.proofs.lemmas.Bool.{cases_eq, cases_Bool, and_cases, and_left, and_right, or_parts, or_from, not-true, eqb-false, ne_eqb, true≢false}
+use Rattle.std.proofs.lemmas.Bool.{cases_Bool, or_parts, or_from, not-true, true≢false}
+use Rattle.std.proofs.lemmas.Bool.Decides.{nat_tests}
 use Rattle.algebras.specs.Transient.{Transient, flipped, end_of, is_zero, is_one}
 use Rattle.algebras.specs.Sums.{starts, ends, total_changes, without_zeros, deduction, sum_changes, sum_of_rest, sum}
 use Rattle.algebras.specs.Letters.{or_of, bit, ones}
-use Rattle.algebras.specs.SumsLemmas.{bit_small, zero_is, one_is, moving_not_one, sum_is_rest, sum_is_one, sums_of_transients}
+use Rattle.algebras.specs.SumsLemmas.{flipped_parity, zero_is, moving_not_one, sum_is_rest, sum_is_one, sums_of_transients}
 use Rattle.algebras.proofs.Prefixes.{Prefixes, none, next, prefixes_starts, prefixes_total}
 use Rattle.algebras.proofs.Answering.{LastChange, HeardLast, LongestFor}
 use Rattle.algebras.proofs.LastChanges.{last_first, last_later, some_last, last_total, last_starts}
@@ -57,11 +58,7 @@ sum_within xs =
 
 -- A word of which a prefix is not 1 is not 1.
 pub prefix_not_one : (a b : Bool) (m n : ℕ) → a ≡ b → m ≤ n → (a && eqb m 0) ≡ false → (b && eqb n 0) ≡ false
-prefix_not_one a b m n e l o =
-    elim (and_cases a (eqb m 0) o) [
-      | inl f ↦ and_left b (eqb n 0) (sym e ∙ f)
-      | inr f ↦ let k = eqb-false m 0 f in and_right b (eqb n 0) (ne_eqb n 0 (λ z. k (omega arith)))
-    ]
+prefix_not_one a b m n e l o = grind (arith, nat_tests)
 
 -- Where no prefix is 1, no word is.
 pub prefixes_no_one : {hs xs : List Transient} → Prefixes hs xs → NoOne hs → NoOne xs
@@ -72,11 +69,7 @@ prefixes_no_one (next {h} {x} {hs} {xs} s n p) o =
 
 -- A word's end rises by no more than its changes grow.
 pub end_grows : (a b : Bool) (m n : ℕ) → a ≡ b → m ≤ n → bit (flipped b n) + m ≤ bit (flipped a m) + n
-end_grows a b m n e l =
-    elim (cases_eq m n) [
-      | inl q ↦ let k : bit (flipped a m) ≡ bit (flipped b n) = cc in omega arith
-      | inr q ↦ let k = bit_small (flipped b n) in omega arith
-    ]
+end_grows a b m n e l = grind arith
 
 -- The ends at 1 rise by no more than all changes grow.
 pub ends_grow : {hs xs : List Transient} → Prefixes hs xs → ones (ends xs) + total_changes hs ≤ ones (ends hs) + total_changes xs
@@ -88,13 +81,7 @@ ends_grow (next {h} {x} s n p) =
 
 -- What is left after the deductions grows, in numbers.
 pub deducted_grows : (T U M N K L : ℕ) → M ≡ N → T ≤ U → L + T ≤ K + U → T - deduction M - deduction K ≤ U - deduction N - deduction L
-deducted_grows T U M N K L e h k = rw e (go (deduction N) K L k)
-  where
-    go : (D K L : ℕ) → L + T ≤ K + U → T - D - deduction K ≤ U - D - deduction L
-    go D zero zero k = omega arith
-    go D zero (suc L) k = omega arith
-    go D (suc K) zero k = omega arith
-    go D (suc K) (suc L) k = omega arith
+deducted_grows T U M N K L e h k = omega arith
 
 -- The changes of a sum grow with what its pins have heard.
 pub sum_grows : {hs xs : List Transient} → Prefixes hs xs → (sum hs).changes ≤ (sum xs).changes
@@ -132,16 +119,11 @@ taken_first b n hs K o a e = record {
 
 -- Of a letter and its flip one is 1.
 pub bit_not : (b : Bool) → bit (not b) + bit b ≡ 1
-bit_not true = omega arith
-bit_not false = omega arith
+bit_not b = grind arith
 
 -- A word that ends with 0 is not 1.
 pub low_not_one : (h : Transient) → end_of h ≡ false → is_one h ≡ false
-low_not_one h e =
-    elim (cases_Bool (is_one h)) [
-      | inl o ↦ absurd (true≢false (sym (ap end_of (one_is h o)) ∙ e))
-      | inr o ↦ o
-    ]
+low_not_one h e = let p = flipped_parity h.start h.changes in grind (arith, nat_tests)
 
 -- A last change that is a rise: before it one end less was 1.
 abbrev pub Rise : List Transient → Type 0
@@ -195,10 +177,7 @@ pulse_or_few (h ∷ hs) o z =
 
 -- What is left after the deductions falls by one at most, in numbers.
 pub deducted_falls : (T U M N K L : ℕ) → T ≡ suc U → M ≡ N → deduction L ≤ deduction K → T - deduction M - deduction K ≤ suc (U - deduction N - deduction L)
-deducted_falls T U M N K L e f l = rw f (go (deduction N) (deduction K) (deduction L) l)
-  where
-    go : (D A B : ℕ) → B ≤ A → T - D - A ≤ suc (U - D - B)
-    go D A B l = omega arith
+deducted_falls T U M N K L e f l = omega arith
 
 -- A change taken that leaves no greater deduction at the ends takes at most one off the sum.
 pub taken_falls : {hs : List Transient} {K : ℕ} (t : Taken hs K) → NoOne hs → deduction K ≤ deduction (ones (ends hs))

@@ -1,5 +1,5 @@
 -- The eight-valued algebra: the start, the end, and whether there is more than one change.
-use Rattle.std.specs.Prelude.{ℕ, ◌+◌, ◌*◌, min, Bool, not, ◌&&◌, nat_lt}
+use Rattle.std.specs.Prelude.{ℕ, ◌+◌, ◌*◌, Bool, not, ◌&&◌, nat_lt}
 use Rattle.algebras.specs.declared.eight.EightGrade.{EightGrade}
 use Rattle.algebras.specs.Transient.{Transient, end_of, complement}
 use Rattle.algebras.specs.Sums.{sum2, product2, exclusive2}
@@ -17,10 +17,6 @@ eight t = of_changes t.start (end_of t) t.changes
 -- it has more than one. Those of start 0 are 0, 01, 010 and 0101. Every call works an entry as the grade of this transient.
 abbrev pub stands_for : EightGrade → Transient
 stands_for x = record { start = x.start; changes = 2 * bit x.more + bit (differ x.start x.«end») }
-
--- The count of an entry: the smaller of its changes and 2.
-abbrev pub count_of : EightGrade → ℕ
-count_of x = min (stands_for x).changes 2
 
 -- An entry as read: itself, since every entry is a transient's grade.
 abbrev pub eight_read : EightGrade → EightGrade

@@ -1,7 +1,7 @@
 -- The five-valued algebra: a table of codes follows an operation where one test says so, and a symbol decides every operation.
 use Rattle.std.specs.Prelude.{◌≡◌, ℕ, zero, suc, ◌≤◌, Bool, true, false, ◌&&◌, ◌⊎◌, List, [], ◌∷◌, ◌==◌, slice_index, refl}
 use Rattle.std.proofs.Common.{sym, ap, ◌∙◌, inl, inr, ⊎_elim, arith}
-use Rattle.std.proofs.lemmas.Bool.{eqb-true, and_parts}
+use Rattle.std.proofs.lemmas.Bool.{eqb-true}
 use Rattle.algebras.specs.declared.five.Symbol.{Symbol}
 use Rattle.algebras.specs.declared.five.Symbol.TheVariants.{Zero, One, Rise, Fall, Half}
 use Rattle.algebras.specs.declared.five.FiveGrade.{FiveGrade}
@@ -9,7 +9,7 @@ use Rattle.algebras.specs.Transient.{Transient, end_of, complement}
 use Rattle.algebras.specs.Sums.{sum2, product2, exclusive2}
 use Rattle.algebras.specs.Five.{symbol_code, all_symbols, symbol_of, symbol_by, symbol_for, symbol_word, stands_for, five, pair_place}
 use Rattle.algebras.specs.SumsLemmas.{bit_small, Moves, word_counted, all_deducted, moving_sum, sum_swap, exclusive_swap}
-use Rattle.algebras.specs.Counts.{sum_one_right, sum_zero_right}
+use Rattle.algebras.specs.Counting.{sum_one_right, sum_zero_right}
 
 -- Whether each symbol of a list passes a test.
 abbrev pub each : (Symbol → Bool) → List Symbol → Bool
@@ -18,13 +18,11 @@ each test (s ∷ ss) = test s && each test ss
 
 -- A test that all symbols pass is passed by every one.
 pub at_each : (test : Symbol → Bool) → each test all_symbols ≡ true → (s : Symbol) → test s ≡ true
-at_each test p s =
-    let a = and_parts (test Zero) (each test (One ∷ Rise ∷ Fall ∷ Half ∷ [])) p in
-    let b = and_parts (test One) (each test (Rise ∷ Fall ∷ Half ∷ [])) a.1 in
-    let c = and_parts (test Rise) (each test (Fall ∷ Half ∷ [])) b.1 in
-    let d = and_parts (test Fall) (each test (Half ∷ [])) c.1 in
-    let e = and_parts (test Half) true d.1 in
-    elim s as (λ v. test v ≡ true) [ Zero ↦ a.0 | One ↦ b.0 | Rise ↦ c.0 | Fall ↦ d.0 | Half ↦ e.0 ]
+at_each test p Zero = grind arith
+at_each test p One = grind arith
+at_each test p Rise = grind arith
+at_each test p Fall = grind arith
+at_each test p Half = grind arith
 
 -- Whether a table has, for two symbols, the code of what an operation makes of their words,
 abbrev pub entry_follows : (Transient → Transient → Transient) → List ℕ → Symbol → Symbol → Bool
@@ -36,13 +34,11 @@ follows op table = each (λ s. each (entry_follows op table s) all_symbols) all_
 
 -- Then it has the grade of what the operation makes of any two entries.
 pub table_rule : (op : Transient → Transient → Transient) (table : List ℕ) → follows op table ≡ true
-    → (x y : FiveGrade) (i : ℕ) → i ≡ pair_place (symbol_of x) (symbol_of y) → record { code = slice_index table i } ≡ five (op (stands_for x) (stands_for y))
-table_rule op table p x y i e =
+    → (x y : FiveGrade) → record { code = slice_index table (pair_place (symbol_of x) (symbol_of y)) } ≡ five (op (stands_for x) (stands_for y))
+table_rule op table p x y =
     let row = at_each (λ s. each (entry_follows op table s) all_symbols) p (symbol_of x) in
     let here = at_each (entry_follows op table (symbol_of x)) row (symbol_of y) in
-    ap (λ (n : ℕ). record { code = n })
-    (ap (λ (k : ℕ). slice_index table k) e
-    ∙ eqb-true (slice_index table (pair_place (symbol_of x) (symbol_of y))) (symbol_code (symbol_for (op (stands_for x) (stands_for y)))) here)
+    ap (λ (n : ℕ). record { code = n }) (eqb-true (slice_index table (pair_place (symbol_of x) (symbol_of y))) (symbol_code (symbol_for (op (stands_for x) (stands_for y)))) here)
 
 -- A symbol's code is read as the symbol.
 pub code_read : (s : Symbol) → symbol_of (record { code = symbol_code s }) ≡ s

@@ -7,6 +7,7 @@ pub mod Counted
 pub mod Hearing
 pub mod Five
 pub mod Eight
+pub mod Counting
 pub mod Counts
 pub mod Words
 pub mod SumsLemmas

@@ -1,43 +1,35 @@
 -- Sums, products and exclusive sums: how they are joined, and what they start and end with.
-use Rattle.std.specs.Prelude.{◌≡◌, ℕ, zero, suc, ◌+◌, ◌-◌, ◌*◌, ◌≤◌, min, Bool, true, false, cond, not, ◌&&◌, ◌||◌, List, [], ◌∷◌, map, length, ◌==◌, refl}
+use Rattle.std.specs.Prelude.{◌≡◌, ℕ, zero, suc, ◌+◌, ◌-◌, ◌*◌, ◌≤◌, min, Bool, true, false, cond, not, ◌&&◌, ◌||◌, List, [], ◌∷◌, map, length, refl}
 use Rattle.std.proofs.Common.{sym, ap, ◌∙◌, zero-add, suc-add, arith}
-use Rattle.std.proofs.lemmas.Bool.{eqb-true, eqb-false, ne_eqb, and_parts, and_right, or_parts, or_right, or_from, cond-true, cond-false}
+use Rattle.std.proofs.Math.Bool.{or-false}
+use Rattle.std.proofs.lemmas.Bool.Decides.{nat_tests}
+use Rattle.std.proofs.lemmas.Bool.{or_parts, or_right, or_from, cond-true, cond-false}
 use Rattle.algebras.specs.Transient.{Transient, flipped, end_of, complement, zero_word, one_word, is_zero, is_one}
 use Rattle.algebras.specs.Sums.{starts, ends, total_changes, without_zeros, deduction, sum_changes, sum_of_rest, sum, product, exclusive, joined, Joins, SumsOfTransients}
 use Rattle.algebras.specs.Letters.{or_of, and_of, differ, xor_of, bit, ones}
-use Rattle.algebras.specs.Words.{same_transient, not_twice, complement_involution, complement_end}
+use Rattle.algebras.specs.Words.{same_transient, complement_involution, complement_end}
 
 -- A letter counts for one at most.
 pub bit_small : (b : Bool) → bit b ≤ 1
-bit_small true = omega arith
-bit_small false = omega arith
+bit_small b = grind arith
 
 -- Letters that count the same are the same.
 pub same_bit : (a b : Bool) → bit a ≡ bit b → a ≡ b
-same_bit true true e = refl
-same_bit true false e = absurd (omega arith)
-same_bit false true e = absurd (omega arith)
-same_bit false false e = refl
-
--- One more flip, in numbers.
-pub flip_parity : (b : Bool) (n m q : ℕ) → n + m ≡ bit b + 2 * q → (p : ℕ) × (suc n + m ≡ bit (not b) + 2 * p)
-flip_parity true n m q e = (q + 1, omega arith)
-flip_parity false n m q e = (q, omega arith)
+same_bit a b e = grind arith
 
 -- A letter flipped n times differs from it by n, but for an even number.
 pub flipped_parity : (b : Bool) (n : ℕ) → (q : ℕ) × (n + bit b ≡ bit (flipped b n) + 2 * q)
 flipped_parity b zero = (0, omega arith)
 flipped_parity b (suc n) =
     let r = flipped_parity b n in
-    flip_parity (flipped b n) n (bit b) r.0 r.1
+    (r.0 + bit (flipped b n), grind arith)
 
 -- OR is 1 where some letter is.
 pub or_ones : (bs : List Bool) → bit (or_of bs) ≡ min 1 (ones bs)
 or_ones [] = refl
-or_ones (true ∷ bs) = omega arith
-or_ones (false ∷ bs) =
+or_ones (b ∷ bs) =
     let r = or_ones bs in
-    omega arith
+    grind arith
 
 -- A word that moves has one change or more.
 abbrev pub Moves : Transient → Type 0
@@ -88,35 +80,27 @@ all_deducted xs h = deducted (total_changes xs) (ones (starts xs)) (ones (ends x
 
 -- The changes of a sum, and the letter it ends with, in numbers.
 pub sum_parity : (T M K n : ℕ) → Counted T M K → n + M + K ≡ T + min 1 M + min 1 K → (e q : ℕ) → e ≤ 1 → n + min 1 M ≡ e + 2 * q → e ≡ min 1 K
-sum_parity T zero zero n h d e q l p = omega arith
-sum_parity T zero (suc K) n h d e q l p = omega arith
-sum_parity T (suc M) zero n h d e q l p = omega arith
-sum_parity T (suc M) (suc K) n h d e q l p = omega arith
+sum_parity T M K n h d e q l p = omega arith
 
 -- A word that is tested to be 0 is the word 0.
 pub zero_is : (x : Transient) → is_zero x ≡ true → x ≡ zero_word
-zero_is x e =
-    let p = and_parts (not x.start) (x.changes == 0) e in
-    same_transient x zero_word (sym (not_twice x.start) ∙ ap not p.0) (eqb-true x.changes 0 p.1)
+zero_is x e = grind (arith, nat_tests)
 
 -- A word that is tested to be 1 is the word 1.
 pub one_is : (x : Transient) → is_one x ≡ true → x ≡ one_word
-one_is x e =
-    let p = and_parts x.start (x.changes == 0) e in
-    same_transient x one_word p.0 (eqb-true x.changes 0 p.1)
+one_is x e = grind (arith, nat_tests)
 
 -- A word that is neither 0 nor 1 moves.
 pub other_moves : (b : Bool) (n : ℕ) → is_zero (record { start = b; changes = n }) ≡ false → is_one (record { start = b; changes = n }) ≡ false → 1 ≤ n
-other_moves true n z o = let k = eqb-false n 0 o in omega arith
-other_moves false n z o = let k = eqb-false n 0 z in omega arith
+other_moves b n z o = grind (arith, nat_tests)
 
 -- A moving word is not 0.
 pub moving_not_zero : (x : Transient) → Moves x → is_zero x ≡ false
-moving_not_zero x h = and_right (not x.start) (x.changes == 0) (ne_eqb x.changes 0 (λ e. omega arith))
+moving_not_zero x h = grind (arith, nat_tests)
 
 -- A moving word is not 1.
 pub moving_not_one : (x : Transient) → Moves x → is_one x ≡ false
-moving_not_one x h = and_right x.start (x.changes == 0) (ne_eqb x.changes 0 (λ e. omega arith))
+moving_not_one x h = grind (arith, nat_tests)
 
 -- Where no word is 1, the words that remain without the words 0 move.
 pub rest_moves : (xs : List Transient) → or_of (map is_one xs) ≡ false → AllMove (without_zeros xs)
@@ -217,17 +201,9 @@ sum_start = sum_letter (λ x. x.start) refl refl (λ xs h. rest_start xs)
 pub sum_end : (xs : List Transient) → end_of (sum xs) ≡ or_of (ends xs)
 sum_end = sum_letter end_of refl refl rest_end
 
--- OR with 0 last.
-pub or_false : (b : Bool) → b || false ≡ b
-or_false true = refl
-or_false false = refl
-
 -- OR with its first two exchanged.
 pub or_swap : (a b c : Bool) → a || (b || c) ≡ b || (a || c)
-or_swap true true c = refl
-or_swap true false c = refl
-or_swap false true c = refl
-or_swap false false c = refl
+or_swap a b c = grind arith
 
 -- The changes of one moving word's sum are its own, in numbers.
 pub single_deducted : (c s e : ℕ) → s ≤ 1 → e ≤ 1 → (c + 0) - deduction (s + 0) - deduction (e + 0) ≡ c
@@ -243,7 +219,7 @@ sum_single x = go x.start x.changes
     go b (suc n) =
         let y : Transient = record { start = b; changes = suc n } in
         moving_sum (y ∷ []) (omega arith, tt)
-        ∙ same_transient (sum_of_rest (y ∷ [])) y (or_false b) (single_deducted (suc n) (bit b) (bit (end_of y)) (bit_small b) (bit_small (end_of y)))
+        ∙ same_transient (sum_of_rest (y ∷ [])) y (or-false b) (single_deducted (suc n) (bit b) (bit (end_of y)) (bit_small b) (bit_small (end_of y)))
 
 -- The sum of moving words with the first two exchanged.
 pub rest_swap : (x y : Transient) (zs : List Transient) → sum_of_rest (x ∷ y ∷ zs) ≡ sum_of_rest (y ∷ x ∷ zs)
@@ -281,10 +257,7 @@ pub deducted_twice : (c s e T M K S E Y A B : ℕ) → S ≡ min 1 M → E ≡ m
     → A + (s + M) + (e + K) ≡ (c + T) + min 1 (s + M) + min 1 (e + K)
     → B + (s + (S + 0)) + (e + (E + 0)) ≡ (c + (Y + 0)) + min 1 (s + (S + 0)) + min 1 (e + (E + 0))
     → B ≡ A
-deducted_twice c s e T zero zero S E Y A B u v p q r = omega arith
-deducted_twice c s e T zero (suc K) S E Y A B u v p q r = omega arith
-deducted_twice c s e T (suc M) zero S E Y A B u v p q r = omega arith
-deducted_twice c s e T (suc M) (suc K) S E Y A B u v p q r = omega arith
+deducted_twice c s e T M K S E Y A B u v p q r = omega arith
 
 -- The sum of moving words is that of the first and the sum of the others.
 pub rest_joins : (x : Transient) (xs : List Transient) → Moves x → AllMove xs → sum_of_rest (x ∷ xs) ≡ sum (x ∷ sum_of_rest xs ∷ [])
@@ -298,7 +271,7 @@ rest_joins x (z ∷ zs) h k =
     (bit y.start) (bit (end_of y)) y.changes (sum_changes (x ∷ r)) (sum_changes two)
     (or_ones (starts r)) (ap bit (rest_end r k) ∙ or_ones (ends r))
     (all_deducted r k) (all_deducted (x ∷ r) (h, k)) (all_deducted two m) in
-    sym (moving_sum two m ∙ same_transient (sum_of_rest two) (sum_of_rest (x ∷ r)) (ap (λ (b : Bool). x.start || b) (or_false (or_of (starts r)))) c)
+    sym (moving_sum two m ∙ same_transient (sum_of_rest two) (sum_of_rest (x ∷ r)) (ap (λ (b : Bool). x.start || b) (or-false (or_of (starts r)))) c)
 
 -- The sum of a list is that of its first and the sum of the others.
 pub sum_joins_rest : (x : Transient) (xs : List Transient) → sum (x ∷ xs) ≡ sum (x ∷ sum xs ∷ [])
@@ -368,17 +341,11 @@ product_joins_rest x xs =
 
 -- XOR with 0 last.
 pub differ_false : (b : Bool) → differ b false ≡ b
-differ_false true = refl
-differ_false false = refl
+differ_false b = grind arith
 
 -- XOR with its first two exchanged.
 pub differ_swap : (a b c : Bool) → differ a (differ b c) ≡ differ b (differ a c)
-differ_swap true true c = refl
-differ_swap true false true = refl
-differ_swap true false false = refl
-differ_swap false true true = refl
-differ_swap false true false = refl
-differ_swap false false c = refl
+differ_swap a b c = grind arith
 
 -- The exclusive sum of one word is the word.
 pub exclusive_single : (x : Transient) → exclusive (x ∷ []) ≡ x
@@ -405,8 +372,7 @@ not_or letter flips (x ∷ xs) =
     ∙ ap (λ b. letter x && b) (not_or letter flips xs)
   where
     go : (a b : Bool) → not (not a || b) ≡ a && not b
-    go true b = refl
-    go false b = refl
+    go a b = grind arith
 
 -- A product starts with AND of the starts.
 pub product_start : (xs : List Transient) → (product xs).start ≡ and_of (starts xs)
@@ -419,17 +385,11 @@ product_end xs =
 
 -- XOR goes through not on the right.
 pub differ_not_right : (a b : Bool) → differ a (not b) ≡ not (differ a b)
-differ_not_right true true = refl
-differ_not_right true false = refl
-differ_not_right false true = refl
-differ_not_right false false = refl
+differ_not_right a b = grind arith
 
 -- XOR goes through not on the left.
 pub differ_not_left : (a b : Bool) → differ (not a) b ≡ not (differ a b)
-differ_not_left true true = refl
-differ_not_left true false = refl
-differ_not_left false true = refl
-differ_not_left false false = refl
+differ_not_left a b = grind arith
 
 -- XOR of letters flipped m and n times is XOR of the letters, flipped m + n times.
 pub flipped_differ : (a b : Bool) (m n : ℕ) → flipped (differ a b) (m + n) ≡ differ (flipped a m) (flipped b n)

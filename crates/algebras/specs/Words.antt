@@ -1,16 +1,12 @@
 -- Transients and their words.
-use Rattle.std.specs.Prelude.{◌≡◌, ℕ, zero, suc, Bool, true, false, not, List, [], ◌∷◌, length, get_or, slice_index_or, refl}
+use Rattle.std.specs.Prelude.{◌≡◌, ℕ, zero, suc, Bool, false, not, List, [], ◌∷◌, length, get_or, slice_index_or, refl}
 use Rattle.std.proofs.Common.{sym, ap, ◌∙◌, arith}
+use Rattle.std.proofs.Math.Bool.{not-not}
 use Rattle.algebras.specs.Transient.{Transient, flipped, end_of, letters, word, complement, Alternates, TransientsAreWords}
 
 -- Transients with the same start and changes are equal.
 pub same_transient : (s t : Transient) → s.start ≡ t.start → s.changes ≡ t.changes → s ≡ t
 same_transient s t p q = λ i. record { start = p i; changes = q i }
-
--- Twice flipped is not flipped.
-pub not_twice : (b : Bool) → not (not b) ≡ b
-not_twice true = refl
-not_twice false = refl
 
 -- Flipping goes through not.
 pub flipped_not : (b : Bool) (n : ℕ) → flipped (not b) n ≡ not (flipped b n)
@@ -19,7 +15,7 @@ flipped_not b (suc n) = ap not (flipped_not b n)
 
 -- The complement of the complement is the transient.
 pub complement_involution : (t : Transient) → complement (complement t) ≡ t
-complement_involution t = same_transient (complement (complement t)) t (not_twice t.start) refl
+complement_involution t = same_transient (complement (complement t)) t (not-not t.start) refl
 
 -- The complement ends in the other letter.
 pub complement_end : (t : Transient) → end_of (complement t) ≡ not (end_of t)

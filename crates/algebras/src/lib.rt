@@ -4,6 +4,7 @@
 
 pub mod algebra;
 pub mod counted;
+mod counting;
 pub mod eight;
 pub mod five;
 pub mod hearing;

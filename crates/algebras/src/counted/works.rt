@@ -3,14 +3,16 @@
 ghost use Rattle.std.specs.Prelude.{◌≡◌, ◌<◌, ◌≤◌, min, MatchResult, nat_le};
 ghost use Rattle.algebras.specs.Counted.{of_changes, counted, count_of, is_saturated, stands_for, cap_fault_number};
 ghost use Rattle.algebras.specs.Counted.{counted_read, counted_complement, counted_sum, counted_product, counted_exclusive, counted_alike};
-ghost use Rattle.algebras.specs.Transient.{Transient, end_of};
+ghost use Rattle.algebras.specs.Transient.{Transient};
 ghost use Rattle.algebras.specs.Verdicts.{verdict_of};
-ghost use Rattle.algebras.specs.Counts.{grade_stands, complement_grades, sum_grades, product_grades, exclusive_grades, read_apart, alike_parts};
+ghost use Rattle.algebras.specs.Counting.{entry_stands, entry_complement, entry_sum, entry_product, entry_exclusive};
+ghost use Rattle.algebras.specs.Counts.{counted_laws, read_apart, alike_parts};
 ghost use Rattle.std.proofs.Common.{rules};
 
 use crate::algebra::Algebra;
 use crate::counted::Counted;
 use crate::counted::grade::{CapFault, Count, CountedGrade};
+use crate::counting::{self, Counting, Parts};
 use crate::telling::Telling;
 use crate::verdict::Verdict;
 
@@ -47,10 +49,10 @@ impl Counted {
         ensures counts { (t : Transient) → x ≡ counted self.now.«cap» t → result ≡ min t.changes self.now.«cap» }
     {
         match x.count {
-            Count::Half(half) => {
-                let said = 2 * half as u32 + (x.start ^ x.end) as u32;
-                said.min(self.cap as u32) as u16
-            }
+            Count::Half(half) => half
+                .saturating_mul(2)
+                .saturating_add(u16::from(x.start ^ x.end))
+                .min(self.cap()),
             Count::Saturated => self.cap,
         }
     }
@@ -62,12 +64,29 @@ impl Counted {
     {
         self.count(x) >= self.cap
     }
+}
 
-    // The grade with this start, end and number of changes.
-    fn of_changes(&self, start: bool, end: bool, changes: u32) -> CountedGrade
-        ensures { result ≡ of_changes self.now.«cap» start «end» changes }
-    {
-        let count = if changes < self.cap as u32 {
+impl Counting for Counted {
+    type Entry = CountedGrade;
+
+    ghost cap = { λ a. a.«cap» };
+
+    ghost makes = { λ a. of_changes a.«cap» };
+
+    ghost stands_for = { λ a. stands_for a.«cap» };
+
+    ghost laws = { λ a. counted_laws a.«cap» a.sound };
+
+    fn parts(&self, x: CountedGrade) -> Parts {
+        Parts {
+            start: x.start,
+            end: x.end,
+            count: self.count(x),
+        }
+    }
+
+    fn of_changes(&self, start: bool, end: bool, changes: u32) -> CountedGrade {
+        let count = if changes < u32::from(self.cap) {
             Count::Half((changes / 2) as u16)
         } else {
             Count::Saturated
@@ -97,62 +116,42 @@ impl Algebra for Counted {
 
     ghost one_alone = { Prim.search rules };
 
-    ghost reads_grade = { λ a t. grade_stands a.«cap» t };
+    ghost reads_grade = { λ a. entry_stands (counted_laws a.«cap» a.sound) };
 
-    ghost complements_grade = { λ a t. complement_grades a.«cap» t };
+    ghost complements_grade = { λ a. entry_complement (counted_laws a.«cap» a.sound) };
 
-    ghost sums_grades = { λ a s t. sum_grades a.«cap» a.sound s t };
+    ghost sums_grades = { λ a. entry_sum (counted_laws a.«cap» a.sound) };
 
-    ghost products_grades = { λ a s t. product_grades a.«cap» a.sound s t };
+    ghost products_grades = { λ a. entry_product (counted_laws a.«cap» a.sound) };
 
-    ghost exclusives_grades = { λ a s t. exclusive_grades a.«cap» s t };
+    ghost exclusives_grades = { λ a. entry_exclusive (counted_laws a.«cap» a.sound) };
 
     ghost alike_reads = { Prim.search rules };
 
     ghost reads_alike = { λ a x y e. alike_parts a.«cap» x y (read_apart a.«cap» x y e) };
 
     fn drive(&self, start: bool, changes: u8) -> CountedGrade {
-        let odd = changes % 2 == 1;
-        self.of_changes(start, start ^ odd, changes as u32)
+        counting::drive(self, start, changes)
     }
 
     fn read(&self, x: CountedGrade) -> CountedGrade {
-        self.of_changes(x.start, x.end, self.count(x) as u32)
+        counting::read(self, x)
     }
 
     fn complement(&self, x: CountedGrade) -> CountedGrade {
-        self.of_changes(!x.start, !x.end, self.count(x) as u32)
+        counting::complement(self, x)
     }
 
     fn sum(&self, x: CountedGrade, y: CountedGrade) -> CountedGrade {
-        let m = self.count(x) as u32;
-        let n = self.count(y) as u32;
-        // A word 1 decides the sum, and a word 0 leaves the other.
-        if m == 0 {
-            return if x.start {
-                self.of_changes(true, true, 0)
-            } else {
-                self.read(y)
-            };
-        }
-        if n == 0 {
-            return if y.start {
-                self.of_changes(true, true, 0)
-            } else {
-                self.read(x)
-            };
-        }
-        let shared = (x.start & y.start) as u32 + (x.end & y.end) as u32;
-        self.of_changes(x.start | y.start, x.end | y.end, m + n - shared)
+        counting::sum(self, x, y)
     }
 
     fn product(&self, x: CountedGrade, y: CountedGrade) -> CountedGrade {
-        self.complement(self.sum(self.complement(x), self.complement(y)))
+        counting::product(self, x, y)
     }
 
     fn exclusive_sum(&self, x: CountedGrade, y: CountedGrade) -> CountedGrade {
-        let changes = self.count(x) as u32 + self.count(y) as u32;
-        self.of_changes(x.start ^ y.start, x.end ^ y.end, changes)
+        counting::exclusive_sum(self, x, y)
     }
 
     fn same(&self, x: CountedGrade, y: CountedGrade) -> bool {
@@ -176,6 +175,6 @@ impl Telling for Counted {
     }
 
     fn verdict(&self, x: CountedGrade) -> Verdict {
-        Verdict::by(x.start, x.end, self.count(x))
+        counting::verdict(self, x)
     }
 }

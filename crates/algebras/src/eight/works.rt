@@ -1,31 +1,42 @@
 //! What the eight-valued algebra does.
 
-ghost use Rattle.std.specs.Prelude.{◌≡◌};
-ghost use Rattle.algebras.specs.Eight.{of_changes, eight, count_of, stands_for};
+ghost use Rattle.algebras.specs.Eight.{of_changes, eight, stands_for};
 ghost use Rattle.algebras.specs.Eight.{eight_read, eight_complement, eight_sum, eight_product, eight_exclusive, eight_alike};
 ghost use Rattle.algebras.specs.Verdicts.{verdict_of};
-ghost use Rattle.algebras.specs.Eights.{complement_grades, operation_grades};
-ghost use Rattle.std.proofs.Common.{arith, rules};
-ghost use Rattle.algebras.specs.Sums.{sum2, product2, exclusive2};
-ghost use Rattle.algebras.specs.Counts.{sum_decided, product_decided, exclusive_decided};
+ghost use Rattle.algebras.specs.Counting.{entry_complement, entry_sum, entry_product, entry_exclusive};
+ghost use Rattle.algebras.specs.Eights.{eight_laws};
+ghost use Rattle.std.proofs.Common.{rules};
 
 use crate::algebra::Algebra;
+use crate::counting::{self, Counting, Parts};
 use crate::eight::{Eight, EightGrade};
 use crate::telling::Telling;
 use crate::verdict::Verdict;
 
-impl Eight {
-    // The count of an entry: the smaller of its changes and 2.
-    fn count(&self, x: EightGrade) -> u16
-        ensures { result ≡ count_of x }
-    {
-        if x.more { 2 } else { (x.start ^ x.end) as u16 }
+impl Counting for Eight {
+    type Entry = EightGrade;
+
+    ghost cap = { λ a. 2 };
+
+    ghost makes = { λ a. of_changes };
+
+    ghost stands_for = { λ a. stands_for };
+
+    ghost laws = { λ a. eight_laws };
+
+    fn parts(&self, x: EightGrade) -> Parts {
+        Parts {
+            start: x.start,
+            end: x.end,
+            count: if x.more {
+                2
+            } else {
+                u16::from(x.start ^ x.end)
+            },
+        }
     }
 
-    // The grade with this start, end and number of changes.
-    fn of_changes(&self, start: bool, end: bool, changes: u16) -> EightGrade
-        ensures { result ≡ of_changes start «end» changes }
-    {
+    fn of_changes(&self, start: bool, end: bool, changes: u32) -> EightGrade {
         EightGrade {
             start,
             end,
@@ -57,21 +68,20 @@ impl Algebra for Eight {
 
     ghost reads_grade = { Prim.search rules };
 
-    ghost complements_grade = { λ a t. complement_grades t };
+    ghost complements_grade = { λ a. entry_complement eight_laws };
 
-    ghost sums_grades = { λ a s t. operation_grades sum2 (sum_decided 2 (omega arith)) s t };
+    ghost sums_grades = { λ a. entry_sum eight_laws };
 
-    ghost products_grades = { λ a s t. operation_grades product2 (product_decided 2 (omega arith)) s t };
+    ghost products_grades = { λ a. entry_product eight_laws };
 
-    ghost exclusives_grades = { λ a s t. operation_grades exclusive2 (exclusive_decided 2) s t };
+    ghost exclusives_grades = { λ a. entry_exclusive eight_laws };
 
     ghost alike_reads = { Prim.search rules };
 
     ghost reads_alike = { Prim.search rules };
 
     fn drive(&self, start: bool, changes: u8) -> EightGrade {
-        let odd = changes % 2 == 1;
-        self.of_changes(start, start ^ odd, changes as u16)
+        counting::drive(self, start, changes)
     }
 
     fn read(&self, x: EightGrade) -> EightGrade {
@@ -79,37 +89,19 @@ impl Algebra for Eight {
     }
 
     fn complement(&self, x: EightGrade) -> EightGrade {
-        EightGrade {
-            start: !x.start,
-            end: !x.end,
-            more: x.more,
-        }
+        counting::complement(self, x)
     }
 
     fn sum(&self, x: EightGrade, y: EightGrade) -> EightGrade {
-        let m = self.count(x);
-        let n = self.count(y);
-        // A word 1 decides the sum, and a word 0 leaves the other.
-        if m == 0 {
-            return if x.start { x } else { y };
-        }
-        if n == 0 {
-            return if y.start { y } else { x };
-        }
-        let shared = (x.start & y.start) as u16 + (x.end & y.end) as u16;
-        self.of_changes(x.start | y.start, x.end | y.end, m + n - shared)
+        counting::sum(self, x, y)
     }
 
     fn product(&self, x: EightGrade, y: EightGrade) -> EightGrade {
-        self.complement(self.sum(self.complement(x), self.complement(y)))
+        counting::product(self, x, y)
     }
 
     fn exclusive_sum(&self, x: EightGrade, y: EightGrade) -> EightGrade {
-        self.of_changes(
-            x.start ^ y.start,
-            x.end ^ y.end,
-            self.count(x) + self.count(y),
-        )
+        counting::exclusive_sum(self, x, y)
     }
 
     fn same(&self, x: EightGrade, y: EightGrade) -> bool {
@@ -133,6 +125,6 @@ impl Telling for Eight {
     }
 
     fn verdict(&self, x: EightGrade) -> Verdict {
-        Verdict::by(x.start, x.end, self.count(x))
+        counting::verdict(self, x)
     }
 }

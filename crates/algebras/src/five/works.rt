@@ -1,6 +1,6 @@
 //! What the five-valued algebra does.
 
-ghost use Rattle.std.specs.Prelude.{◌≡◌};
+ghost use Rattle.std.specs.Prelude.{◌≡◌, slice_index};
 ghost use Rattle.algebras.specs.Five.{symbol_code, symbol_of, symbol_for, five, pair_place};
 ghost use Rattle.algebras.specs.Five.{five_read, five_complement, five_sum, five_product, five_exclusive, five_alike};
 ghost use Rattle.algebras.specs.Transient.{Transient};
@@ -65,11 +65,15 @@ impl Five {
         }
     }
 
-    // Where a table has what it says of these two.
-    fn place(&self, x: FiveGrade, y: FiveGrade) -> usize
-        ensures { result ≡ pair_place (symbol_of x) (symbol_of y) }
+    // What a table of codes has of two entries.
+    fn look_up(&self, table: &[u8; 25], x: FiveGrade, y: FiveGrade) -> FiveGrade
+        ensures { result ≡ record { code = slice_index table.now (pair_place (symbol_of x) (symbol_of y)) } }
     {
-        5 * usize::from(u8::from(self.symbol(x))) + usize::from(u8::from(self.symbol(y)))
+        let row = usize::from(u8::from(self.symbol(x)));
+        let column = usize::from(u8::from(self.symbol(y)));
+        FiveGrade {
+            code: table[5 * row + column],
+        }
     }
 }
 
@@ -134,21 +138,15 @@ impl Algebra for Five {
     }
 
     fn sum(&self, x: FiveGrade, y: FiveGrade) -> FiveGrade {
-        FiveGrade {
-            code: SUMS[self.place(x, y)],
-        }
+        self.look_up(&SUMS, x, y)
     }
 
     fn product(&self, x: FiveGrade, y: FiveGrade) -> FiveGrade {
-        FiveGrade {
-            code: PRODUCTS[self.place(x, y)],
-        }
+        self.look_up(&PRODUCTS, x, y)
     }
 
     fn exclusive_sum(&self, x: FiveGrade, y: FiveGrade) -> FiveGrade {
-        FiveGrade {
-            code: EXCLUSIVE_SUMS[self.place(x, y)],
-        }
+        self.look_up(&EXCLUSIVE_SUMS, x, y)
     }
 
     fn same(&self, x: FiveGrade, y: FiveGrade) -> bool {

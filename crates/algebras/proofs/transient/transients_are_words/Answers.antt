@@ -1,6 +1,5 @@
 use Rattle.algebras.proofs.transient.transients_are_words.Goals as goal
 use Rattle.algebras.specs.Words.{transients_are_words}
 
--- src/transient.rt:7:1
 pub returns : goal.returns
 returns c = transients_are_words
