@@ -8,8 +8,8 @@ use Rattle.nets.specs.declared.fault.NetFault.{NetFault}
 use Rattle.nets.specs.declared.net.Net.{Net}
 use Rattle.nets.specs.declared.told.Told.{Told}
 use Rattle.nets.specs.Asking.{answer_of_asking, grade_of, told_of}
-use Rattle.nets.specs.Calls.{PlainCall, plain_step, plain_after, plain_of}
-use Rattle.nets.specs.Following.{OfLongest, Follows, GoesOn, LooksUpLongest, TellsLongest}
+use Rattle.nets.specs.Calls.{PlainCall, column_step, plain_step, plain_after, plain_of}
+use Rattle.nets.specs.Following.{OfLongest, Follows, GoesOn, LooksUpLongest, Makes, TellsLongest}
 use Rattle.nets.specs.Nets.{ColumnKept, net_wires}
 use Rattle.nets.specs.Placing.{answered}
 use Rattle.nets.specs.Wires.{Plain, Lower}
@@ -77,6 +77,13 @@ goes_on L n m column rest x step kept calls f =
     follow L m rest (calls ++ x ∷ [])
     (step ∙ ap (λ (ws : List Plain). plain_step ws x) f.wires ∙ sym (plain_after_push [] calls x))
     (kept (followed L n column calls f))
+
+-- A call that makes the step of the plain net and of the column, and keeps a kept column, makes its step.
+pub made : {X G : Type 0} {L : Ghosts X G} {n m : Net X G L} {before after : List G} {x : PlainCall}
+    → net_wires m ≡ plain_step (net_wires n) x → m.algebra ≡ n.algebra → after ≡ column_step L n.algebra (net_wires n) before x
+    → (ColumnKept L n before → ColumnKept L m after) → Makes L n before m after x
+made {L = L} {n} {m} {before} {after} {x} net algebra column kept =
+    record { net = net; algebra = algebra; column = column; kept = kept; follows = goes_on L n m before after x net kept }
 
 -- What is answered of a wire's transient in a kept column is answered of its longest history in one that follows.
 pub answers_follow : {X G V : Type 0} (L : Ghosts X G) (n : Net X G L) (column : List G) (w : ℕ) (of : Transient → V) (r : Result V NetFault)

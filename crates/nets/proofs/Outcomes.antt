@@ -256,3 +256,7 @@ module _ {X G : Type 0} (L : Ghosts X G) (a : X) (rest : List ℕ) (at count : �
 pub turn_none : (long at count : ℕ) (ws : List Plain) (rest : List ℕ) (result : Outcome) → reading long at 0 count ws rest ≡ result → length rest ≡ 0 → ws ≡ result.wires
 turn_none long at count ws [] result left none = ap (λ (o : Outcome). o.wires) left
 turn_none long at count ws (b ∷ bs) result left none = absurd (omega arith)
+
+pub column_none : {X G : Type 0} (L : Ghosts X G) (a : X) (ws : List Plain) (column : List G) (rest : List ℕ) (entries : List G) → column_reading L a 0 ws column rest ≡ entries → length rest ≡ 0 → column ≡ entries
+column_none L a ws column [] entries left none = left
+column_none L a ws column (b ∷ bs) entries left none = absurd (omega arith)

@@ -7,7 +7,7 @@ use Rattle.std.proofs.lemmas.List.Sums.{sum_by-cons}
 use Rattle.std.proofs.lemmas.Bool.{le-ltb, lt-ltb}
 use Rattle.algebras.specs.declared.kind.Kind.{Kind}
 use Rattle.algebras.specs.declared.kind.Kind.TheVariants.{Buffer, Inverter, And, Or, Xor, Nand, Nor, Xnor}
-use Rattle.algebras.specs.Counts.{byte_bit}
+use Rattle.algebras.specs.Counting.{byte_bit}
 use Rattle.algebras.specs.Kinds.{kind_number}
 use Rattle.nets.specs.declared.fault.NetFault.TheVariants.{ShortBuffer}
 use Rattle.nets.specs.declared.wire.Wire.{Wire}

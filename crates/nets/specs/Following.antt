@@ -7,8 +7,8 @@ use Rattle.nets.specs.declared.net.Net.{Net}
 use Rattle.nets.specs.declared.told.Told.{Told}
 use Rattle.nets.specs.Arrivals.{Longest}
 use Rattle.nets.specs.Asking.{told_of}
-use Rattle.nets.specs.Calls.{PlainCall, plain_of}
-use Rattle.nets.specs.Nets.{net_wires}
+use Rattle.nets.specs.Calls.{PlainCall, column_step, plain_of, plain_step}
+use Rattle.nets.specs.Nets.{ColumnKept, net_wires}
 use Rattle.nets.specs.Placing.{answered}
 use Rattle.nets.specs.Wires.{Plain}
 use Rattle.nets.specs.Working.{entry}
@@ -36,3 +36,12 @@ TellsLongest net long w r = OfLongest net w (λ t. r ≡ answered (length net) l
 -- end.
 abbrev pub GoesOn : {X G : Type 0} (L : Ghosts X G) → Net X G L → List G → Net X G L → List G → PlainCall → Type 0
 GoesOn L n column n' column' x = (calls : List PlainCall) → Follows L n column calls → Follows L n' column' (calls ++ x ∷ [])
+
+-- A call makes its step of a net and a column: the wires and the entries that the call makes of those before, under the same algebra. A
+-- kept column stays kept, and following goes on.
+pub record Makes {X G : Type 0} (L : Ghosts X G) (n : Net X G L) (before : List G) (m : Net X G L) (after : List G) (x : PlainCall) : Type 0 where
+  pub net : net_wires m ≡ plain_step (net_wires n) x
+  pub algebra : m.algebra ≡ n.algebra
+  pub column : after ≡ column_step L n.algebra (net_wires n) before x
+  pub kept : ColumnKept L n before → ColumnKept L m after
+  pub follows : GoesOn L n before m after x

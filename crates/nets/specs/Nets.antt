@@ -19,15 +19,9 @@ net_wires n = map plain (vec_items n.table.wires)
 abbrev pub ColumnKept : {X G : Type 0} (L : Ghosts X G) → Net X G L → List G → Type 0
 ColumnKept L n column = Kept L n.algebra (net_wires n) column
 
--- What placing answers on a net and a column, and the wires and the column after it.
+-- What placing answers on a net and a column.
 abbrev pub answer_of_placing : {X G : Type 0} {L : Ghosts X G} → Net X G L → List G → Request → Result ℕ NetFault
 answer_of_placing n column q = place_answer (net_wires n) (length column) q
-
-abbrev pub wires_after_placing : {X G : Type 0} {L : Ghosts X G} → Net X G L → List G → Request → List Plain
-wires_after_placing n column q = placed (net_wires n) (length column) q
-
-abbrev pub column_after_placing : {X G : Type 0} (L : Ghosts X G) → Net X G L → List G → Request → List G
-column_after_placing L n column q = filled L n.algebra (net_wires n) column q
 
 -- Why the record that bytes begin with is not placed, and the wires and the column after it.
 abbrev pub reason_of_record : {X G : Type 0} {L : Ghosts X G} → Net X G L → List G → List ℕ → Option Reason

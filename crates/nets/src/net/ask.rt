@@ -1,7 +1,7 @@
 //! Questions about the wires of a net.
 
 ghost use Rattle.std.specs.Prelude.{◌≡◌, List, length};
-ghost use Rattle.nets.specs.Asking.{answer_of_asking, entry_of, grade_of, reading_of, telling, told_of};
+ghost use Rattle.nets.specs.Asking.{answer_of_asking, entry_of, grade_of, looked_up, telling, told_of};
 ghost use Rattle.nets.specs.Calls.{PlainCall, plain_of};
 ghost use Rattle.nets.specs.Following.{Follows, LooksUpLongest, TellsLongest};
 ghost use Rattle.nets.specs.Nets.{ColumnKept, net_wires};
@@ -29,7 +29,7 @@ impl<L: Algebra> Net<L> {
 
     /// The entry of a wire, as read: in a kept column, the grade of the wire's transient, which is its longest history.
     pub fn look_up(&self, column: &[L::Grade], wire: usize) -> Result<L::Grade, NetFault>
-        ensures answer { result ≡ answer_of_asking self.now column.now wire (reading_of L.Algebra self.now column.now wire) }
+        ensures answer { result ≡ looked_up L.Algebra self.now column.now wire }
         ensures kept { ColumnKept L.Algebra self.now column.now → result ≡ answer_of_asking self.now column.now wire (grade_of L.Algebra self.now wire) }
         ensures follows { (calls : List PlainCall) → Follows L.Algebra self.now column.now calls → LooksUpLongest L.Algebra self.now.algebra (plain_of calls) (length column.now) wire result }
     {

@@ -3,8 +3,8 @@
 ghost use Rattle.std.specs.Prelude.{◌≡◌, ◌<◌, true, List, [], ◌∷◌, ◌++◌, length, IfOk, slice_set};
 ghost use Rattle.nets.specs.Calls.{places};
 ghost use Rattle.nets.specs.Faults.{first_fault, unless};
-ghost use Rattle.nets.specs.Following.{Follows, GoesOn};
-ghost use Rattle.nets.specs.Nets.{ColumnKept, answer_of_placing, column_after_placing, net_wires, wires_after_placing};
+ghost use Rattle.nets.specs.Following.{Follows, Makes};
+ghost use Rattle.nets.specs.Nets.{ColumnKept, answer_of_placing, net_wires};
 ghost use Rattle.nets.specs.Placing.{ask_gate, ask_input, plain_request, room_checks};
 ghost use Rattle.nets.specs.Wires.{Within, fits};
 ghost use Rattle.nets.specs.Tables.{plain};
@@ -47,11 +47,7 @@ impl<L: Algebra> Net<L> {
         changes: u8,
     ) -> Result<usize, NetFault>
         ensures answer { result ≡ answer_of_placing self.old column.old (ask_input start changes) }
-        ensures net { net_wires self.new ≡ wires_after_placing self.old column.old (ask_input start changes) }
-        ensures algebra { self.new.algebra ≡ self.old.algebra }
-        ensures column { column.new ≡ column_after_placing L.Algebra self.old column.old (ask_input start changes) }
-        ensures kept { ColumnKept L.Algebra self.old column.old → ColumnKept L.Algebra self.new column.new }
-        ensures follows { GoesOn L.Algebra self.old column.old self.new column.new (places (length column.old) (ask_input start changes)) }
+        ensures makes { Makes L.Algebra self.old column.old self.new column.new (places (length column.old) (ask_input start changes)) }
     {
         self.place(column, Request::Input { start, changes })
     }
@@ -64,11 +60,7 @@ impl<L: Algebra> Net<L> {
         pins: &[u16],
     ) -> Result<usize, NetFault>
         ensures answer { result ≡ answer_of_placing self.old column.old (ask_gate kind pins.now) }
-        ensures net { net_wires self.new ≡ wires_after_placing self.old column.old (ask_gate kind pins.now) }
-        ensures algebra { self.new.algebra ≡ self.old.algebra }
-        ensures column { column.new ≡ column_after_placing L.Algebra self.old column.old (ask_gate kind pins.now) }
-        ensures kept { ColumnKept L.Algebra self.old column.old → ColumnKept L.Algebra self.new column.new }
-        ensures follows { GoesOn L.Algebra self.old column.old self.new column.new (places (length column.old) (ask_gate kind pins.now)) }
+        ensures makes { Makes L.Algebra self.old column.old self.new column.new (places (length column.old) (ask_gate kind pins.now)) }
     {
         self.place(column, Request::Gate { kind, pins })
     }
@@ -80,11 +72,7 @@ impl<L: Algebra> Net<L> {
         request: Request,
     ) -> Result<usize, NetFault>
         ensures answer { result ≡ answer_of_placing self.old column.old (plain_request request.entry) }
-        ensures net { net_wires self.new ≡ wires_after_placing self.old column.old (plain_request request.entry) }
-        ensures algebra { self.new.algebra ≡ self.old.algebra }
-        ensures column { column.new ≡ column_after_placing L.Algebra self.old column.old (plain_request request.entry) }
-        ensures kept { ColumnKept L.Algebra self.old column.old → ColumnKept L.Algebra self.new column.new }
-        ensures follows { GoesOn L.Algebra self.old column.old self.new column.new (places (length column.old) (plain_request request.entry)) }
+        ensures makes { Makes L.Algebra self.old column.old self.new column.new (places (length column.old) (plain_request request.entry)) }
     {
         let number = self.room(column.len())?;
         let wire = Wire::asked(request, number)?;

@@ -3,9 +3,9 @@
 ghost use Rattle.std.specs.Prelude.{◌≡◌, ℕ, [], length, is_ok, IfOk, if◌then◌else◌};
 ghost use Rattle.nets.specs.Arrivals.{LongestInTurn};
 ghost use Rattle.nets.specs.Asking.{looked_up};
-ghost use Rattle.nets.specs.Calls.{answer_step, answers_after, column_after, column_step, plain_call, plain_calls, plain_of, plain_step};
-ghost use Rattle.nets.specs.Following.{Follows, GoesOn, LooksUpLongest};
-ghost use Rattle.nets.specs.Nets.{ColumnKept, net_wires};
+ghost use Rattle.nets.specs.Calls.{answer_step, answers_after, column_after, plain_call, plain_calls, plain_of};
+ghost use Rattle.nets.specs.Following.{Follows, LooksUpLongest, Makes};
+ghost use Rattle.nets.specs.Nets.{net_wires};
 
 use crate::call::{Answer, Call};
 use crate::net::Net;
@@ -16,11 +16,7 @@ impl<L: Algebra> Net<L> {
     /// Plays a call with a column, and answers what the call answers.
     pub fn play(&mut self, column: &mut [L::Grade], call: Call) -> Answer
         ensures answer { result ≡ answer_step (net_wires self.old) (plain_call (length column.old) call.entry) }
-        ensures net { net_wires self.new ≡ plain_step (net_wires self.old) (plain_call (length column.old) call.entry) }
-        ensures algebra { self.new.algebra ≡ self.old.algebra }
-        ensures column { column.new ≡ column_step L.Algebra self.old.algebra (net_wires self.old) column.old (plain_call (length column.old) call.entry) }
-        ensures kept { ColumnKept L.Algebra self.old column.old → ColumnKept L.Algebra self.new column.new }
-        ensures follows { GoesOn L.Algebra self.old column.old self.new column.new (plain_call (length column.old) call.entry) }
+        ensures makes { Makes L.Algebra self.old column.old self.new column.new (plain_call (length column.old) call.entry) }
     {
         match call {
             Call::PlaceInput { start, changes } => {

@@ -3,8 +3,8 @@
 ghost use Rattle.std.specs.Prelude.{◌≡◌, ◌<◌, length, if◌then◌else◌, nat_eq};
 ghost use Rattle.nets.specs.Calls.{reads_in};
 ghost use Rattle.nets.specs.Faults.{unless};
-ghost use Rattle.nets.specs.Following.{GoesOn};
-ghost use Rattle.nets.specs.Nets.{ColumnKept, column_after_reading, column_after_record, net_wires, outcome_of_reading, reason_of_record, wires_after_record};
+ghost use Rattle.nets.specs.Following.{Makes};
+ghost use Rattle.nets.specs.Nets.{ColumnKept, column_after_record, net_wires, outcome_of_reading, reason_of_record, wires_after_record};
 ghost use Rattle.nets.specs.Records.{reason_number, record_length, search_high, unplaced};
 ghost use Rattle.std.specs.Option.{option_map, unwrap_or};
 
@@ -33,11 +33,7 @@ impl<L: Algebra> Net<L> {
     /// with their entries, stay.
     pub fn read(&mut self, column: &mut [L::Grade], bytes: &[u8]) -> Result<usize, ReadFault>
         ensures answer { result ≡ (outcome_of_reading self.old column.old bytes.now).answer }
-        ensures net { net_wires self.new ≡ (outcome_of_reading self.old column.old bytes.now).wires }
-        ensures algebra { self.new.algebra ≡ self.old.algebra }
-        ensures column { column.new ≡ column_after_reading L.Algebra self.old column.old bytes.now }
-        ensures kept { ColumnKept L.Algebra self.old column.old → ColumnKept L.Algebra self.new column.new }
-        ensures follows { GoesOn L.Algebra self.old column.old self.new column.new (reads_in (length column.old) bytes.now) }
+        ensures makes { Makes L.Algebra self.old column.old self.new column.new (reads_in (length column.old) bytes.now) }
     {
         let wires = self.wires();
         let mut rest = bytes;

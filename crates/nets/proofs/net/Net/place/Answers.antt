@@ -1,12 +1,11 @@
 use Rattle.std.proofs.Common.{ℕ, [], ◌∷◌, ◌++◌, length, set, Ok, Err, sym, refl, ap, ◌∙◌, subst}
 use Rattle.std.proofs.lemmas.Result.{err_from_is_err_and}
-use Rattle.nets.specs.Calls.{places}
 use Rattle.nets.specs.Nets.{net_wires}
 use Rattle.nets.specs.Placing.{plain_request}
 use Rattle.nets.specs.Wires.{Plain, Within}
 use Rattle.nets.specs.Tables.{plain}
 use Rattle.nets.specs.Working.{worked}
-use Rattle.nets.proofs.Followed.{goes_on}
+use Rattle.nets.proofs.Followed.{made}
 use Rattle.nets.proofs.Placements.{unless_ok, unless_err, unless_passed, settled_passed, unless_refused, settled_refused, room_is, admitted, refused_room, refused_request}
 use Rattle.nets.proofs.net.Net.place.Goals as goal
 
@@ -15,7 +14,10 @@ returns-in_err-number g c =
     let f = c.in_err-number.field-0.0 in
     let s = refused_room _ (length c.args.column.now) (plain_request c.args.request) f (unless_err _ _ f (sym c.in_err-number.ensures)) in
     let p = err_from_is_err_and c.from_residual.result c.from_residual.ensures.1 in
-    record { answer = p.1 ∙ ap Err p.2 ∙ unless_refused _ _ f s; net = settled_refused _ _ _ f s; algebra = refl; column = settled_refused _ _ _ f s; kept = λ k. k; follows = goes_on g.L.Algebra _ _ _ c.args.column.now (places (length c.args.column.now) (plain_request c.args.request)) (settled_refused _ _ _ f s) (λ k. k) }
+    record {
+      answer = p.1 ∙ ap Err p.2 ∙ unless_refused _ _ f s;
+      makes = made (settled_refused _ _ _ f s) refl (settled_refused _ _ _ f s) (λ k. k);
+    }
 
 pub returns-in_err-wire : goal.returns-in_err-wire
 returns-in_err-wire g c =
@@ -23,7 +25,10 @@ returns-in_err-wire g c =
     let room = unless_ok _ _ _ (sym c.in_ok-number.ensures) in
     let s = refused_request _ (length c.args.column.now) _ (plain_request c.args.request) f room.0 room.1 c.in_err-wire.ensures in
     let p = err_from_is_err_and c.from_residual-in_err-wire.result c.from_residual-in_err-wire.ensures.1 in
-    record { answer = p.1 ∙ ap Err p.2 ∙ unless_refused _ _ f s; net = settled_refused _ _ _ f s; algebra = refl; column = settled_refused _ _ _ f s; kept = λ k. k; follows = goes_on g.L.Algebra _ _ _ c.args.column.now (places (length c.args.column.now) (plain_request c.args.request)) (settled_refused _ _ _ f s) (λ k. k) }
+    record {
+      answer = p.1 ∙ ap Err p.2 ∙ unless_refused _ _ f s;
+      makes = made (settled_refused _ _ _ f s) refl (settled_refused _ _ _ f s) (λ k. k);
+    }
 
 pub append-requires : goal.append-requires
 append-requires g c =
@@ -43,9 +48,7 @@ returns g c =
     let net = c.append.ensures.net ∙ ap (λ (w : Plain). net_wires n ++ w ∷ []) same ∙ settled_passed _ _ _ s in
     record {
       answer = ap Ok (sym room.1) ∙ unless_passed _ _ s;
-      net = net;
-      algebra = c.append.ensures.algebra;
-      column = c.append.ensures.column ∙ ap (λ (w : Plain). set column (length (net_wires n)) (worked g.L.Algebra n.algebra column w)) same ∙ settled_passed _ _ _ s;
-      kept = c.append.ensures.kept;
-      follows = goes_on g.L.Algebra n c.append.new.self column c.append.new.column (places (length column) q) net c.append.ensures.kept;
+      makes = made net c.append.ensures.algebra
+          (c.append.ensures.column ∙ ap (λ (w : Plain). set column (length (net_wires n)) (worked g.L.Algebra n.algebra column w)) same ∙ settled_passed _ _ _ s)
+          c.append.ensures.kept;
     }

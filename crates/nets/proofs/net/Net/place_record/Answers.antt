@@ -20,10 +20,10 @@ returns-in_err-place g c =
     let p = err_from_is_err_and c.from_residual-in_err-place.result c.from_residual-in_err-place.ensures.1 in
     record {
       answer = p.1 ∙ ap Err p.2 ∙ unless_refused _ _ (unplaced (Refused f)) (ap (option_map unplaced) t);
-      net = c.place.ensures.net ∙ sym (settled_refused _ _ _ f s) ∙ settled_refused _ _ _ (Refused f) t;
-      algebra = c.place.ensures.algebra;
-      column = c.place.ensures.column ∙ sym (settled_refused _ _ _ f s) ∙ settled_refused _ _ _ (Refused f) t;
-      kept = c.place.ensures.kept;
+      net = c.place.ensures.makes.net ∙ sym (settled_refused _ _ _ f s) ∙ settled_refused _ _ _ (Refused f) t;
+      algebra = c.place.ensures.makes.algebra;
+      column = c.place.ensures.makes.column ∙ sym (settled_refused _ _ _ f s) ∙ settled_refused _ _ _ (Refused f) t;
+      kept = c.place.ensures.makes.kept;
     }
 
 pub returns : goal.returns
@@ -36,8 +36,8 @@ returns g c =
     let t = record_admitted (net_wires n) (length column) bytes _ c.in_ok-record.ensures.0 asks s in
     record {
       answer = ap Ok c.in_ok-record.ensures.2 ∙ unless_passed _ _ (ap (option_map unplaced) t);
-      net = c.place.ensures.net ∙ sym (settled_passed _ _ (net_wires n) s) ∙ ap (λ (q : Request). net_wires n ++ asked q ∷ []) (sym asks) ∙ settled_passed _ _ _ t;
-      algebra = c.place.ensures.algebra;
-      column = c.place.ensures.column ∙ sym (settled_passed _ _ column s) ∙ ap (λ (q : Request). set column (length (net_wires n)) (worked g.L.Algebra n.algebra column (asked q))) (sym asks) ∙ settled_passed _ _ _ t;
-      kept = c.place.ensures.kept;
+      net = c.place.ensures.makes.net ∙ sym (settled_passed _ _ (net_wires n) s) ∙ ap (λ (q : Request). net_wires n ++ asked q ∷ []) (sym asks) ∙ settled_passed _ _ _ t;
+      algebra = c.place.ensures.makes.algebra;
+      column = c.place.ensures.makes.column ∙ sym (settled_passed _ _ column s) ∙ ap (λ (q : Request). set column (length (net_wires n)) (worked g.L.Algebra n.algebra column (asked q))) (sym asks) ∙ settled_passed _ _ _ t;
+      kept = c.place.ensures.makes.kept;
     }

@@ -3,13 +3,12 @@ use Rattle.std.proofs.lemmas.List.{take_rest}
 use Rattle.nets.specs.declared.fault.Reason.{Reason}
 use Rattle.nets.specs.declared.fault.ReadFault.{ReadFault}
 use Rattle.nets.specs.Faults.{settled}
-use Rattle.nets.specs.Calls.{reads_in}
 use Rattle.nets.specs.Nets.{ColumnKept, column_after_reading, net_wires, outcome_of_reading}
 use Rattle.nets.specs.Placing.{asked}
 use Rattle.nets.specs.Records.{at_place, column_reading, reading, reason_number, reason_of, request_of, search_high}
 use Rattle.nets.specs.Working.{worked}
-use Rattle.nets.proofs.Followed.{goes_on}
-use Rattle.nets.proofs.Outcomes.{mapped_none, mapped_some, placed_whole, turn_none, turn_placed, turn_refused}
+use Rattle.nets.proofs.Followed.{made}
+use Rattle.nets.proofs.Outcomes.{column_none, mapped_none, mapped_some, placed_whole, turn_none, turn_placed, turn_refused}
 use Rattle.nets.proofs.Placements.{unless_ok, unless_err}
 use Rattle.nets.proofs.Readings.{rest_length}
 use Rattle.nets.proofs.net.Net.read.Given.{Over}
@@ -97,14 +96,11 @@ returns-in-Err g c =
           ∙ ap (λ (x : Reason). at_place x at c.wires.result c.high_pin-pin.result) (sym same)
           ∙ ap (λ (n : ℕ). at_place r at n c.high_pin-pin.result) c.wires.ensures)
           ∙ ends.0;
-      net = ends.1;
-      algebra = c.place_record.ensures.algebra ∙ c.loop-rest.invariant.2;
-      column = ends.2;
-      kept = kept;
-      follows = goes_on L c.args.self.now c.place_record.new.self c.args.column.now c.place_record.new.column (reads_in (length c.args.column.now) bytes) ends.1 kept;
+      makes = made ends.1 (c.place_record.ensures.algebra ∙ c.loop-rest.invariant.2) ends.2 kept;
     }
 
-pub returns-clause-follows : goal.returns-clause-follows
-returns-clause-follows g c =
-    goes_on g.L.Algebra c.args.self.now c.loop-rest.self c.args.column.now c.loop-rest.column (reads_in (length c.args.column.now) c.args.bytes.now)
-    (turn_none _ _ _ _ c.loop-rest.rest.now _ c.loop-rest.invariant.3 (search rules)) c.loop-rest.invariant.6
+pub returns-clause-makes : goal.returns-clause-makes
+returns-clause-makes g c =
+    let none : length c.loop-rest.rest.now ≡ 0 = search rules in
+    made (turn_none _ _ _ _ c.loop-rest.rest.now _ c.loop-rest.invariant.3 none) c.loop-rest.invariant.2
+    (column_none g.L.Algebra c.args.self.now.algebra _ _ c.loop-rest.rest.now _ c.loop-rest.invariant.4 none) c.loop-rest.invariant.6

@@ -20,21 +20,21 @@ loop-call-preserved g c =
     let x = get_or calls i (PlaceInput 0 0) in
     let same = c.loop-call.auto.column in
     let play = c.play-answer.ensures in
-    let net = play.net ∙ ap (λ (m : ℕ). plain_step ws (plain_call m x)) same in
+    let net = play.makes.net ∙ ap (λ (m : ℕ). plain_step ws (plain_call m x)) same in
     let answer =
     c.push_reserved.ensures.items
     ∙ ap (λ (r : Answer). vec_items c.loop-call.answers ++ r ∷ []) (play.answer ∙ ap (λ (m : ℕ). answer_step ws (plain_call m x)) same) in
     let filled =
-    play.column
+    play.makes.column
     ∙ ap (λ (m : ℕ). column_step L c.loop-call.net.algebra ws column (plain_call m x)) same
     ∙ ap (λ b. column_step L b ws column (plain_call long x)) c.loop-call.invariant.2 in
     let F : List PlainCall → Type 0 = λ cs. Follows L c.play-answer.new.self c.play-answer.new.column cs in (
       omega (arith, c.push_reserved.ensures.len, c.loop-call.invariant.0),
       omega (arith, c.push_reserved.ensures.capacity, c.loop-call.invariant.1),
-      play.algebra ∙ c.loop-call.invariant.2,
+      play.makes.algebra ∙ c.loop-call.invariant.2,
       answers_turn long calls i within ws (net_wires c.play-answer.new.self) (vec_items c.loop-call.answers) (vec_items c.push_reserved.new.self) _ answer net c.loop-call.invariant.3,
       column_turn long calls i within L a ws (net_wires c.play-answer.new.self) column c.play-answer.new.column _ net filled c.loop-call.invariant.4,
-      subst F (ap (λ (m : ℕ). plain_calls long (take i calls) ++ plain_call m x ∷ []) same ∙ calls_turn long calls i within) (play.follows (plain_calls long (take i calls)) c.loop-call.invariant.5),
+      subst F (ap (λ (m : ℕ). plain_calls long (take i calls) ++ plain_call m x ∷ []) same ∙ calls_turn long calls i within) (play.makes.follows (plain_calls long (take i calls)) c.loop-call.invariant.5),
     )
 
 pub returns : goal.returns
