@@ -6,7 +6,7 @@ use Rattle.algebras.specs.Letters.{bit}
 use Rattle.algebras.specs.Transient.{Transient, end_of}
 use Rattle.algebras.specs.Verdicts.{verdict_number, verdict_of}
 use Rattle.nets.specs.declared.fault.Layer.{Layer}
-use Rattle.nets.specs.declared.fault.Layer.TheVariants.{Input, Record, Algebra, Net}
+use Rattle.nets.specs.declared.fault.Layer.TheVariants.{Input, Algebra}
 use Rattle.nets.specs.declared.fault.ReadFault.{ReadFault}
 use Rattle.nets.specs.Faults.{layer_name}
 use Rattle.nets.specs.Records.{Outcome, reading, reason_layer, reason_number}

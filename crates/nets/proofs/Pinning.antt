@@ -1,7 +1,7 @@
 -- Pins that name wires too high.
-use Rattle.std.proofs.Common.{◌≡◌, ℕ, zero, suc, ◌+◌, ◌<◌, ◌≤◌, Bool, true, false, cond, not, ◌||◌, eqb, leb, List, [], ◌∷◌, map, length, get_or, drop, is_some, Some, None, Option, unwrap_or, sym, refl, ap, ◌∙◌, arith}
-use Rattle.std.proofs.lemmas.List.{at_drop_more, at_drop_all}
-use Rattle.std.proofs.lemmas.Bool.{le-leb, lt-leb, leb-true, leb-false, eqb-true, and_parts, or_parts}
+use Rattle.std.proofs.Common.{◌≡◌, ℕ, zero, suc, ◌<◌, ◌≤◌, Bool, true, false, cond, not, ◌||◌, eqb, leb, List, [], ◌∷◌, map, length, drop, is_some, Some, None, Option, unwrap_or, refl, ap, ◌∙◌, arith}
+use Rattle.std.proofs.lemmas.List.{at_drop_all}
+use Rattle.std.proofs.lemmas.Bool.{leb-true, leb-false, eqb-true, and_parts, or_parts}
 use Rattle.std.specs.List.{list_any}
 use Rattle.algebras.specs.declared.kind.Kind.{Kind}
 use Rattle.algebras.specs.declared.kind.Kind.TheVariants.{Buffer, Inverter, And, Or, Xor, Nand, Nor, Xnor}
@@ -9,7 +9,6 @@ use Rattle.algebras.specs.Kinds.{pins_allowed, several}
 use Rattle.algebras.specs.Letters.{or_of}
 use Rattle.nets.specs.declared.fault.NetFault.TheVariants.{BadKind, BadPinCount, HighPin}
 use Rattle.nets.specs.Placing.{count_allowed}
-use Rattle.nets.specs.Records.{first_high}
 use Rattle.nets.specs.Wires.{gate, Below, Within}
 
 -- Whether some value passes a test, as one word or as the OR of what the test answers.

@@ -1,10 +1,9 @@
 -- Reading records: what the bytes ask for, and why they are refused.
-use Rattle.std.proofs.Common.{◌≡◌, ℕ, zero, suc, ◌+◌, ◌-◌, ◌*◌, ◌/◌, ◌%◌, ◌<◌, ◌≤◌, Bool, true, false, cond, not, ◌||◌, ltb, leb, ◌⊎◌, List, [], ◌∷◌, map, length, get_or, take, drop, is_some, Some, None, sym, refl, ap, ◌∙◌, inl, inr, ⊎_elim, add-one, arith}
-use Rattle.std.proofs.lemmas.List.{get_or-take, get_or-drop, length-drop, take_rest, drop-drop}
-use Rattle.std.proofs.lemmas.Bool.{ne_eqb, le-ltb, lt-ltb, lt-leb}
+use Rattle.std.proofs.Common.{◌≡◌, ℕ, zero, suc, ◌+◌, ◌-◌, ◌*◌, ◌/◌, ◌%◌, ◌<◌, ◌≤◌, Bool, true, false, cond, not, ◌||◌, leb, List, [], ◌∷◌, map, length, get_or, take, drop, is_some, Some, None, sym, refl, ap, ◌∙◌, add-one, arith}
+use Rattle.std.proofs.lemmas.List.{get_or-take, get_or-drop, length-drop, take_rest}
+use Rattle.std.proofs.lemmas.Bool.{ne_eqb, le-ltb, lt-leb}
 use Rattle.algebras.specs.Letters.{or_of}
 use Rattle.nets.specs.declared.fault.NetFault.{NetFault}
-use Rattle.nets.specs.declared.fault.Reason.{Reason}
 use Rattle.nets.specs.declared.fault.Reason.TheVariants.{UnknownKind, CutShort, Refused}
 use Rattle.nets.specs.Placing.{Request, ask_input, ask_gate, refusal}
 use Rattle.nets.specs.Records.{known, is_input, body_size, pins_in, request_at, misread, carried, or_else, record_length, request_of, reason_of, pins_asked, first_high, search_high}

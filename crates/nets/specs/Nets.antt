@@ -8,7 +8,7 @@ use Rattle.nets.specs.Wires.{Plain}
 use Rattle.nets.specs.Tables.{plain}
 use Rattle.nets.specs.Working.{Kept, worked}
 use Rattle.nets.specs.Faults.{settled}
-use Rattle.nets.specs.Placing.{Request, asked, place_answer, placed, filled}
+use Rattle.nets.specs.Placing.{Request, asked, place_answer}
 use Rattle.nets.specs.Records.{Outcome, column_reading, reading, reason_of, request_of}
 
 -- The wires of a net.
