@@ -1,5 +1,6 @@
 -- Placing: what is asked for, in which order it is checked, and what it makes of the plain net and the column.
 use Rattle.std.specs.Prelude.{◌≡◌, ℕ, Bool, true, false, not, leb, List, [], ◌∷◌, ◌++◌, map, length, is_some, Some, None, Option, Result, MatchResult, ◌==◌, nat_le, nat_lt, slice_set}
+use Rattle.std.specs.Borrow.{Bor}
 use Rattle.std.specs.Option.{unwrap_or}
 use Rattle.algebras.specs.declared.algebra.Algebra.{Ghosts}
 use Rattle.algebras.specs.declared.kind.Kind.{Kind}
@@ -22,7 +23,7 @@ pub data Request : Type 0 where
   ask_gate : ℕ → List ℕ → Request
 
 -- What a request of the code asks for.
-abbrev pub plain_request : CodeRequest → Request
+abbrev pub plain_request : CodeRequest (Bor (List ℕ)) → Request
 plain_request (Input start changes) = ask_input start changes
 plain_request (Gate kind pins) = ask_gate kind pins.now
 

@@ -1,8 +1,9 @@
 //! What is asked to be placed.
 
-// A wire that is asked for, by its numbers: an input by its start and changes, a gate by its kind and pins.
+// A wire that is asked for, by its numbers: an input by its start and changes, a gate by its kind and pins. A call lends the pins, and a
+// record that is taken apart holds them.
 #[derive(Clone, Copy)]
-pub(crate) enum Request<'a> {
+pub(crate) enum Request<P> {
     Input { start: u8, changes: u8 },
-    Gate { kind: u8, pins: &'a [u16] },
+    Gate { kind: u8, pins: P },
 }

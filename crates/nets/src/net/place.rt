@@ -69,7 +69,7 @@ impl<L: Algebra> Net<L> {
     pub(crate) fn place(
         &mut self,
         column: &mut [L::Grade],
-        request: Request,
+        request: Request<&[u16]>,
     ) -> Result<usize, NetFault>
         ensures answer { result ≡ answer_of_placing self.old column.old (plain_request request.entry) }
         ensures makes { Makes L.Algebra self.old column.old self.new column.new (places (length column.old) (plain_request request.entry)) }

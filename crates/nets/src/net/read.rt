@@ -25,7 +25,7 @@ impl<L: Algebra> Net<L> {
         ensures kept { ColumnKept L.Algebra self.old column.old → ColumnKept L.Algebra self.new column.new }
     {
         let (record, size) = Record::first(bytes)?;
-        self.place(column, record.request())?;
+        self.place(column, record.lent())?;
         Ok(size)
     }
 

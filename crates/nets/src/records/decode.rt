@@ -29,7 +29,7 @@ fn record_size(kind: u8) -> Result<usize, Reason>
     }
 }
 
-impl Record {
+impl Request<Pins<15>> {
     // The record that these bytes begin with, and its length.
     pub(crate) fn first(bytes: &[u8]) -> Result<(Record, usize), Reason>
         requires { 0 < length bytes.now }
@@ -40,12 +40,12 @@ impl Record {
             return Err(Reason::CutShort);
         }
         let record = if bytes[0] == INPUT {
-            Record::Input {
+            Request::Input {
                 start: bytes[1],
                 changes: bytes[2],
             }
         } else {
-            Record::Gate {
+            Request::Gate {
                 kind: bytes[0] / 16,
                 pins: Pins::decode(&bytes[1..size]),
             }
@@ -53,16 +53,16 @@ impl Record {
         Ok((record, size))
     }
 
-    // What this record record_request to be placed.
-    pub(crate) fn request(&self) -> Request<'_>
+    // What this record asks for, with its pins lent.
+    pub(crate) fn lent(&self) -> Request<&[u16]>
         ensures { plain_request result ≡ record_request self.now }
     {
         match self {
-            Record::Input { start, changes } => Request::Input {
+            Request::Input { start, changes } => Request::Input {
                 start: *start,
                 changes: *changes,
             },
-            Record::Gate { kind, pins } => Request::Gate {
+            Request::Gate { kind, pins } => Request::Gate {
                 kind: *kind,
                 pins: pins.as_slice(),
             },
@@ -74,8 +74,8 @@ impl Record {
         ensures { result.now ≡ pins_asked (record_request self.now) }
     {
         match self {
-            Record::Input { .. } => &[],
-            Record::Gate { pins, .. } => pins.as_slice(),
+            Request::Input { .. } => &[],
+            Request::Gate { pins, .. } => pins.as_slice(),
         }
     }
 }

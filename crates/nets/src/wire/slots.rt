@@ -77,7 +77,7 @@ impl Gate {
 
 impl Wire {
     // The wire that is asked for as number `wire`, or why there is none.
-    pub(crate) fn asked(request: Request, wire: usize) -> Result<Wire, NetFault>
+    pub(crate) fn asked(request: Request<&[u16]>, wire: usize) -> Result<Wire, NetFault>
         ensures { AskedAs wire (plain_request request.entry) result }
     {
         match request {

@@ -14,7 +14,7 @@ pub returns-in_err-place : goal.returns-in_err-place
 returns-in_err-place g c =
     let bytes = c.args.bytes.now in
     let f = c.in_err-place.field-0.0 in
-    let asks = sym (c.request.ensures ∙ c.in_ok-record.ensures.1) in
+    let asks = sym (c.lent.ensures ∙ c.in_ok-record.ensures.1) in
     let s = unless_err _ _ f (sym c.in_err-place.ensures.answer) in
     let t = record_refused (net_wires c.args.self.now) (length c.args.column.now) bytes _ f c.in_ok-record.ensures.0 asks s in
     let p = err_from_is_err_and c.from_residual-in_err-place.result c.from_residual-in_err-place.ensures.1 in
@@ -32,7 +32,7 @@ returns g c =
     let n = c.args.self.now in
     let column = c.args.column.now in
     let s = (unless_ok _ _ _ (sym c.in_ok-place.ensures.answer)).0 in
-    let asks = sym (c.request.ensures ∙ c.in_ok-record.ensures.1) in
+    let asks = sym (c.lent.ensures ∙ c.in_ok-record.ensures.1) in
     let t = record_admitted (net_wires n) (length column) bytes _ c.in_ok-record.ensures.0 asks s in
     record {
       answer = ap Ok c.in_ok-record.ensures.2 ∙ unless_passed _ _ (ap (option_map unplaced) t);
