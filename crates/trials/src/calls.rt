@@ -79,7 +79,7 @@ fn refusal<T: Drop>(answer: Result<T, NetFault>) -> u8 {
 // Makes a call, and checks that it is taken or refused, and that a refusal changes nothing.
 fn try_placing(
     rt: &impl Abort,
-    standing: Standing,
+    standing: Standing<Counted>,
     inputs: usize,
     call: Wanted,
     number: u8,
@@ -113,7 +113,7 @@ fn try_placing(
 #[test]
 fn placing(rt: HostRuntime) -> Result<(), Fail> {
     for (inputs, long, call, number) in PLACING {
-        let standing = Standing::new(rt.alloc(), inputs, long)?;
+        let standing = Standing::with_inputs(rt.alloc(), inputs, long)?;
         try_placing(&rt, standing, inputs, call, number)?;
     }
     Ok(())
@@ -122,7 +122,7 @@ fn placing(rt: HostRuntime) -> Result<(), Fail> {
 #[test]
 fn asking(rt: HostRuntime) -> Result<(), Fail> {
     for (inputs, long, wire, number) in ASKING {
-        let Standing { net, column } = Standing::new(rt.alloc(), inputs, long)?;
+        let Standing { net, column } = Standing::with_inputs(rt.alloc(), inputs, long)?;
         let looked_up = refusal(net.look_up(&column, wire));
         let told = refusal(net.tell(&column, wire));
         assert_eq!(rt; (looked_up, told), (number, number));

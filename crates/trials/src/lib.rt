@@ -9,6 +9,8 @@ mod graded;
 #[cfg(test)]
 mod histories;
 #[cfg(test)]
+mod net_a;
+#[cfg(test)]
 mod reading;
 #[cfg(test)]
 mod replaying;

@@ -101,7 +101,7 @@ fn try_read(
     let Standing {
         mut net,
         mut column,
-    } = Standing::new(heap, inputs, long)?;
+    } = Standing::with_inputs(heap, inputs, long)?;
     let before = column.clone()?;
     let read = net.read(&mut column, bytes)?;
     let wires = inputs.saturating_add(records);
@@ -122,14 +122,14 @@ fn try_refused(
     let Standing {
         mut net,
         mut column,
-    } = Standing::new(heap, inputs, long)?;
+    } = Standing::with_inputs(heap, inputs, long)?;
     let Err(fault) = net.read(&mut column, bytes) else {
         return Err(Fail::new("all records are read"));
     };
     let Standing {
         net: mut other,
         column: mut entries,
-    } = Standing::new(heap, inputs, long)?;
+    } = Standing::with_inputs(heap, inputs, long)?;
     let before = bytes.get(0..fault.offset).ok_or("no such offset")?;
     other.read(&mut entries, before)?;
     let same = same_entries(&entries, &column, 0..0);

@@ -1,9 +1,9 @@
 //! Lists of calls, refused ones among them, played on an empty net.
 
 use crate::graded::Graded;
-use crate::histories::blank_column;
-use crate::simulator::Part::{Gate, Input};
-use crate::simulator::{Function, Part, play};
+use crate::net_a;
+use crate::simulator::play;
+use crate::standing::blank_column;
 use algebras::counted::Counted;
 use algebras::eight::Eight;
 use algebras::five::Five;
@@ -39,16 +39,6 @@ const CALLS: [Call<'static>; 9] = [
         kind: 3,
         pins: &[0, 6],
     },
-];
-
-// The net that they make.
-const NET_A: [Part; 6] = [
-    Input(false, 1),
-    Gate(Function::Inverter, &[0]),
-    Gate(Function::And, &[0, 1]),
-    Gate(Function::Or, &[0, 2]),
-    Gate(Function::Nand, &[1, 2]),
-    Gate(Function::Xor, &[3, 4]),
 ];
 
 // Entries of the column, how many wires the calls place, and what each call answers: a number, or the number of its refusal. A column
@@ -113,7 +103,7 @@ fn said(answer: Answer) -> Result<usize, u8> {
 
 // Plays the calls with columns of several lengths, and holds what they answer to the table, and each wire to its longest history.
 fn try_replay<L: Graded + Copy>(rt: &impl Abort, heap: Global, algebra: L) -> Result<(), Fail> {
-    let histories = play(heap, &NET_A)?.ok_or("too large to be played")?;
+    let histories = play(heap, &net_a::PARTS)?;
     for (long, wires, answers) in COLUMNS {
         let mut column = blank_column(heap, &algebra, long)?;
         let played = replay(heap, algebra, &mut column, &CALLS)?;
