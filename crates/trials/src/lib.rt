@@ -11,6 +11,8 @@ mod histories;
 #[cfg(test)]
 mod net_a;
 #[cfg(test)]
+mod numbers;
+#[cfg(test)]
 mod reading;
 #[cfg(test)]
 mod replaying;
