@@ -132,11 +132,11 @@ fn try_placed<L: Graded + Copy>(
 fn try_read<L: Telling + Copy>(
     rt: &(impl Abort + AllocGlobal),
     algebra: L,
-    records: &[u8],
+    bytes: &[u8],
     histories: &[History],
 ) -> Result<(), Fail> {
     let mut standing = Standing::open(rt.alloc(), algebra, ENTRIES)?;
-    standing.read(records)?;
+    standing.read(bytes)?;
     standing.check_told(rt, histories)
 }
 
@@ -146,14 +146,14 @@ pub(crate) fn try_net(
     parts: &[Part],
 ) -> Result<Vec<History>, Fail> {
     let histories = play(rt.alloc(), parts)?;
-    let records = records(rt.alloc(), parts)?;
+    let bytes = records(rt.alloc(), parts)?;
     for cap in [2, 4, 1000] {
         let counted = Counted::new(cap)?;
         try_placed(rt, counted, parts, &histories)?;
-        try_read(rt, counted, &records, &histories)?;
+        try_read(rt, counted, &bytes, &histories)?;
     }
     try_placed(rt, Eight, parts, &histories)?;
-    try_read(rt, Eight, &records, &histories)?;
+    try_read(rt, Eight, &bytes, &histories)?;
     try_placed(rt, Five, parts, &histories)?;
     Ok(histories)
 }

@@ -23,7 +23,7 @@ const NET_FAULTS: [(NetFault, u8); 8] = [
     (NetFault::ShortBuffer, 14),
 ];
 
-// The refusals of a reader of its own.
+// The refusals that are a reader's own.
 const RECORD_FAULTS: [(Reason, u8); 2] = [(Reason::UnknownKind, 11), (Reason::CutShort, 12)];
 
 #[test]

@@ -82,6 +82,7 @@ impl<L: Telling> Standing<L> {
     /// Checks that of the first wires the starts, ends and verdicts of these histories are told.
     pub(crate) fn check_told(&self, rt: &impl Abort, histories: &[History]) -> Result<(), Fail> {
         for (wire, history) in histories.iter().enumerate() {
+            // `Told` derives no equality, so its fields are compared.
             let told = self.net.tell(&self.column, wire)?;
             assert_eq!(rt;
                 (told.start, told.end, told.verdict),
