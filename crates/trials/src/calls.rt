@@ -9,7 +9,7 @@ use std::process::Abort;
 use std::test::*;
 
 // A wire that is to be placed. Its fields have no names, so that each call of the table is one line.
-#[derive(Clone, Copy)]
+#[derive(Clone, Copy, Debug)]
 enum Wanted {
     // An input, with its start and its changes.
     Input(u8, u8),
@@ -18,7 +18,7 @@ enum Wanted {
 }
 
 // Inputs that stand, entries of the column, a call that places, and what it answers.
-#[derive(Clone, Copy)]
+#[derive(Clone, Copy, Debug)]
 struct Placement {
     inputs: usize,
     entries: usize,
@@ -237,7 +237,7 @@ const PLACING: [Placement; 34] = [
 ];
 
 // Inputs that stand, entries of the column, the wire that is asked for, and why it is refused, if it is.
-#[derive(Clone, Copy)]
+#[derive(Clone, Copy, Debug)]
 struct Question {
     inputs: usize,
     entries: usize,
@@ -317,8 +317,11 @@ impl Placement {
         let wires = self
             .answer
             .map_or(self.inputs, |wire| wire.saturating_add(1));
-        assert_eq!(rt; (answer, net.wires()), (self.answer, wires));
-        assert!(rt; same_entries(&before, &column, self.inputs..wires));
+        assert_eq!(rt; (answer, net.wires()), (self.answer, wires), "at {self:?}");
+        assert!(rt;
+            same_entries(&before, &column, self.inputs..wires),
+            "at {self:?}"
+        );
         Ok(())
     }
 }
@@ -331,8 +334,16 @@ impl Question {
             self.inputs,
             self.entries,
         )?;
-        assert_eq!(rt; net.look_up(&column, self.wire).err(), self.refusal);
-        assert_eq!(rt; net.tell(&column, self.wire).err(), self.refusal);
+        assert_eq!(rt;
+            net.look_up(&column, self.wire).err(),
+            self.refusal,
+            "at {self:?}"
+        );
+        assert_eq!(rt;
+            net.tell(&column, self.wire).err(),
+            self.refusal,
+            "at {self:?}"
+        );
         Ok(())
     }
 }
@@ -361,7 +372,11 @@ fn caps(rt: HostRuntime) -> Result<(), Fail> {
         (2, Ok(2)),
         (65535, Ok(65535)),
     ] {
-        assert_eq!(rt; Counted::new(cap).map(|counted| counted.cap()), answer);
+        assert_eq!(rt;
+            Counted::new(cap).map(|counted| counted.cap()),
+            answer,
+            "at {cap}"
+        );
     }
     Ok(())
 }

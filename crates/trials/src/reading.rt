@@ -12,7 +12,7 @@ use std::test::*;
 const RECORDS_OF_A: [Range<usize>; 6] = [0..3, 3..6, 6..11, 11..16, 16..21, 21..26];
 
 // Inputs that stand, entries of the column, bytes that are read, and how many records they are.
-#[derive(Clone, Copy)]
+#[derive(Clone, Copy, Debug)]
 struct Read<'a> {
     inputs: usize,
     entries: usize,
@@ -60,7 +60,7 @@ const READ: [Read<'static>; 6] = [
 ];
 
 // Inputs that stand, entries of the column, bytes that are not all read, and the refusal.
-#[derive(Clone, Copy)]
+#[derive(Clone, Copy, Debug)]
 struct Refused<'a> {
     inputs: usize,
     entries: usize,
@@ -404,8 +404,15 @@ impl Read<'_> {
         let before = standing.column.clone()?;
         let records = standing.read(self.bytes)?;
         let wires = self.inputs.saturating_add(self.records);
-        assert_eq!(rt; (records, standing.net.wires()), (self.records, wires));
-        assert!(rt; same_entries(&before, &standing.column, self.inputs..wires));
+        assert_eq!(rt;
+            (records, standing.net.wires()),
+            (self.records, wires),
+            "at {self:?}"
+        );
+        assert!(rt;
+            same_entries(&before, &standing.column, self.inputs..wires),
+            "at {self:?}"
+        );
         Ok(())
     }
 }
@@ -414,15 +421,19 @@ impl Refused<'_> {
     // Reads the bytes, and checks the refusal, and that the records before the refused one stay as they are read alone.
     fn check(&self, rt: &(impl Abort + AllocGlobal)) -> Result<(), Fail> {
         let mut standing = Standing::with_inputs(rt.alloc(), self.inputs, self.entries)?;
-        assert_eq!(rt; standing.read(self.bytes), Err(self.fault));
+        assert_eq!(rt; standing.read(self.bytes), Err(self.fault), "at {self:?}");
         let mut alone = Standing::with_inputs(rt.alloc(), self.inputs, self.entries)?;
         let before = self.bytes.get(..self.fault.offset).ok_or("no such offset")?;
         alone.read(before)?;
         assert_eq!(rt;
             (standing.net.wires(), alone.net.wires()),
-            (self.fault.wire, self.fault.wire)
+            (self.fault.wire, self.fault.wire),
+            "at {self:?}"
         );
-        assert!(rt; same_entries(&alone.column, &standing.column, 0..0));
+        assert!(rt;
+            same_entries(&alone.column, &standing.column, 0..0),
+            "at {self:?}"
+        );
         Ok(())
     }
 }

@@ -113,8 +113,13 @@ fn try_replay<L: Graded + Copy>(rt: &(impl Abort + AllocGlobal), algebra: L) -> 
         let mut column = blank_column(rt.alloc(), &algebra, case.entries)?;
         let Played { net, answers } = replay(rt.alloc(), algebra, &mut column, &CALLS)?;
         let said: Vec<_> = answers.iter().map(said).collect(rt.alloc())?;
-        assert_eq!(rt; net.wires(), case.wires);
-        assert_eq!(rt; said.as_slice(), case.answers.as_slice());
+        assert_eq!(rt; net.wires(), case.wires, "at {} entries", case.entries);
+        assert_eq!(rt;
+            said.as_slice(),
+            case.answers.as_slice(),
+            "at {} entries",
+            case.entries
+        );
         let placed = histories.get(..case.wires).ok_or("no such wires")?;
         Standing { net, column }.check_grades(rt, &algebra, placed)?;
     }
