@@ -2,17 +2,18 @@
 
 use crate::graded::Graded;
 use crate::simulator::Part::{Gate, Input};
-use crate::simulator::{Function, History, Part, WIRES, play};
-use algebras::algebra::Algebra;
+use crate::simulator::{Function, History, Part, play};
+use crate::standing::Standing;
 use algebras::counted::Counted;
 use algebras::eight::Eight;
 use algebras::five::Five;
 use algebras::telling::Telling;
-use nets::fault::NetFault;
-use nets::net::Net;
-use std::alloc::{AllocError, Global};
+use std::alloc::Global;
 use std::process::Abort;
 use std::test::*;
+
+// The entries of each column, which are more than the wires of any net here.
+const ENTRIES: usize = 8;
 
 // The kinds of gate that take several pins.
 const OF_SEVERAL: [Function; 6] = [
@@ -96,26 +97,16 @@ const NETS: [&[Part]; 7] = [
     ],
 ];
 
-// The number of the verdict on a history.
-fn verdict_number(history: History) -> u8 {
-    match history.changes {
-        0 => 1,
-        1 => 3,
-        n => if n % 2 == 0 { 2 } else { 4 },
-    }
-}
-
 // The records of a net.
-fn records(heap: Global, parts: &[Part]) -> Result<Vec<u8>, AllocError> {
+pub(crate) fn records(heap: Global, parts: &[Part]) -> Result<Vec<u8>, Fail> {
     let mut bytes = Vec::new(heap);
     for part in parts {
         match part {
             Input(start, changes) => {
-                bytes.extend_from_slice(&[0x01, *start as u8, *changes])?;
+                bytes.extend_from_slice(&[0x01, u8::from(*start), *changes])?;
             }
             Gate(function, pins) => {
-                let kind = *function as u8;
-                bytes.push(kind.wrapping_mul(16).wrapping_add(pins.len().min(15) as u8))?;
+                bytes.push((u8::from(*function) << 4) | u8::try_from(pins.len())?)?;
                 for pin in pins.iter() {
                     bytes.extend_from_slice(&pin.to_le_bytes())?;
                 }
@@ -125,87 +116,45 @@ fn records(heap: Global, parts: &[Part]) -> Result<Vec<u8>, AllocError> {
     Ok(bytes)
 }
 
-/// A column of so many entries, all of them the grade of the word 0.
-pub(crate) fn blank_column<L: Algebra>(
-    heap: Global,
-    algebra: &L,
-    long: usize,
-) -> Result<Vec<L::Grade>, AllocError> {
-    let mut column = Vec::new(heap);
-    for _ in 0..long {
-        column.push(algebra.drive(false, 0))?;
-    }
-    Ok(column)
-}
-
-// Places every part.
-fn place<L: Algebra>(
-    net: &mut Net<L>,
-    column: &mut [L::Grade],
-    parts: &[Part],
-) -> Result<(), NetFault> {
-    for part in parts {
-        match part {
-            Input(start, changes) => net.place_input(column, *start as u8, *changes)?,
-            Gate(function, pins) => net.place_gate(column, *function as u8, pins)?,
-        };
-    }
-    Ok(())
-}
-
 // Checks the grades of all wires of a net that is placed.
 fn try_placed<L: Graded + Copy>(
-    rt: &impl Abort,
-    heap: Global,
+    rt: &(impl Abort + AllocGlobal),
     algebra: L,
     parts: &[Part],
-    histories: &[History; WIRES],
+    histories: &[History],
 ) -> Result<(), Fail> {
-    let mut column = blank_column(heap, &algebra, WIRES)?;
-    let mut net = Net::open(heap, algebra)?;
-    place(&mut net, &mut column, parts)?;
-    for (wire, history) in histories.iter().enumerate().take(parts.len()) {
-        algebra.check_grade(rt, net.look_up(&column, wire)?, *history)?;
-    }
-    Ok(())
+    let mut standing = Standing::open(rt.alloc(), algebra, ENTRIES)?;
+    standing.place(parts)?;
+    standing.check_grades(rt, &algebra, histories)
 }
 
 // Checks what is told of all wires of a net that is read.
 fn try_read<L: Telling + Copy>(
-    rt: &impl Abort,
-    heap: Global,
+    rt: &(impl Abort + AllocGlobal),
     algebra: L,
-    parts: &[Part],
-    histories: &[History; WIRES],
+    bytes: &[u8],
+    histories: &[History],
 ) -> Result<(), Fail> {
-    let mut column = blank_column(heap, &algebra, WIRES)?;
-    let mut net = Net::open(heap, algebra)?;
-    net.read(&mut column, &records(heap, parts)?)?;
-    for (wire, history) in histories.iter().enumerate().take(parts.len()) {
-        let told = net.tell(&column, wire)?;
-        assert_eq!(rt;
-            (told.start, told.end, told.verdict.number()),
-            (history.start, history.end(), verdict_number(*history))
-        );
-    }
-    Ok(())
+    let mut standing = Standing::open(rt.alloc(), algebra, ENTRIES)?;
+    standing.read(bytes)?;
+    standing.check_told(rt, histories)
 }
 
 /// Plays a net, holds it to what is played under every algebra, and answers what is played.
 pub(crate) fn try_net(
-    rt: &impl Abort,
-    heap: Global,
+    rt: &(impl Abort + AllocGlobal),
     parts: &[Part],
-) -> Result<[History; WIRES], Fail> {
-    let histories = play(heap, parts)?.ok_or("too large to be played")?;
+) -> Result<Vec<History>, Fail> {
+    let histories = play(rt.alloc(), parts)?;
+    let bytes = records(rt.alloc(), parts)?;
     for cap in [2, 4, 1000] {
         let counted = Counted::new(cap)?;
-        try_placed(rt, heap, counted, parts, &histories)?;
-        try_read(rt, heap, counted, parts, &histories)?;
+        try_placed(rt, counted, parts, &histories)?;
+        try_read(rt, counted, &bytes, &histories)?;
     }
-    try_placed(rt, heap, Eight, parts, &histories)?;
-    try_read(rt, heap, Eight, parts, &histories)?;
-    try_placed(rt, heap, Five, parts, &histories)?;
+    try_placed(rt, Eight, parts, &histories)?;
+    try_read(rt, Eight, &bytes, &histories)?;
+    try_placed(rt, Five, parts, &histories)?;
     Ok(histories)
 }
 
@@ -217,7 +166,7 @@ fn gates_of_one_pin(rt: HostRuntime) -> Result<(), Fail> {
             Gate(Function::Buffer, &[0]),
             Gate(Function::Inverter, &[0]),
         ];
-        try_net(&rt, rt.alloc(), &net)?;
+        try_net(&rt, &net)?;
     }
     Ok(())
 }
@@ -227,15 +176,11 @@ fn gates_of_several_pins(rt: HostRuntime) -> Result<(), Fail> {
     for function in OF_SEVERAL {
         for first in INPUTS {
             for second in INPUTS {
-                try_net(&rt, rt.alloc(), &[first, second, Gate(function, &[0, 1])])?;
-                try_net(
-                    &rt,
-                    rt.alloc(),
-                    &[first, second, Gate(function, &[0, 1, 0])],
-                )?;
+                try_net(&rt, &[first, second, Gate(function, &[0, 1])])?;
+                try_net(&rt, &[first, second, Gate(function, &[0, 1, 0])])?;
                 for third in THIRD {
                     let gate = Gate(function, &[0, 1, 2]);
-                    try_net(&rt, rt.alloc(), &[first, second, third, gate])?;
+                    try_net(&rt, &[first, second, third, gate])?;
                 }
             }
         }
@@ -246,7 +191,7 @@ fn gates_of_several_pins(rt: HostRuntime) -> Result<(), Fail> {
 #[test]
 fn several_gates(rt: HostRuntime) -> Result<(), Fail> {
     for net in NETS {
-        try_net(&rt, rt.alloc(), net)?;
+        try_net(&rt, net)?;
     }
     Ok(())
 }

@@ -9,6 +9,10 @@ mod graded;
 #[cfg(test)]
 mod histories;
 #[cfg(test)]
+mod net_a;
+#[cfg(test)]
+mod numbers;
+#[cfg(test)]
 mod reading;
 #[cfg(test)]
 mod replaying;

@@ -1,15 +1,15 @@
 //! Lists of calls, refused ones among them, played on an empty net.
 
 use crate::graded::Graded;
-use crate::histories::blank_column;
-use crate::simulator::Part::{Gate, Input};
-use crate::simulator::{Function, Part, play};
+use crate::net_a;
+use crate::simulator::play;
+use crate::standing::{Standing, blank_column};
 use algebras::counted::Counted;
 use algebras::eight::Eight;
 use algebras::five::Five;
 use nets::call::{Answer, Call};
-use nets::net::play::replay;
-use std::alloc::Global;
+use nets::fault::{NetFault, Reason};
+use nets::net::play::{Played, replay};
 use std::process::Abort;
 use std::test::*;
 
@@ -41,96 +41,94 @@ const CALLS: [Call<'static>; 9] = [
     },
 ];
 
-// The net that they make.
-const NET_A: [Part; 6] = [
-    Input(false, 1),
-    Gate(Function::Inverter, &[0]),
-    Gate(Function::And, &[0, 1]),
-    Gate(Function::Or, &[0, 2]),
-    Gate(Function::Nand, &[1, 2]),
-    Gate(Function::Xor, &[3, 4]),
-];
+// Entries of the column, how many wires the calls place, and what each call says. A column of four has room for the first four wires, and
+// one of none for no wire.
+#[derive(Clone, Copy)]
+struct Replay {
+    entries: usize,
+    wires: usize,
+    answers: [Result<usize, Reason>; 9],
+}
 
-// Entries of the column, how many wires the calls place, and what each call answers: a number, or the number of its refusal. A column
-// of four has room for the first four wires, and one of none for no wire.
-const COLUMNS: [(usize, usize, [Result<usize, u8>; 9]); 3] = [
-    (
-        8,
-        6,
-        [
-            Err(9),
+const REPLAYS: [Replay; 3] = [
+    Replay {
+        entries: 8,
+        wires: 6,
+        answers: [
+            Err(Reason::Refused(NetFault::HighPin)),
             Ok(0),
-            Err(4),
-            Err(11),
+            Err(Reason::Refused(NetFault::BadStart)),
+            Err(Reason::UnknownKind),
             Ok(0),
             Ok(3),
             Ok(2),
-            Err(12),
-            Err(9),
+            Err(Reason::CutShort),
+            Err(Reason::Refused(NetFault::HighPin)),
         ],
-    ),
-    (
-        4,
-        4,
-        [
-            Err(9),
+    },
+    Replay {
+        entries: 4,
+        wires: 4,
+        answers: [
+            Err(Reason::Refused(NetFault::HighPin)),
             Ok(0),
-            Err(4),
-            Err(11),
+            Err(Reason::Refused(NetFault::BadStart)),
+            Err(Reason::UnknownKind),
             Ok(0),
             Ok(3),
-            Err(6),
-            Err(12),
-            Err(6),
+            Err(Reason::Refused(NetFault::ShortColumn)),
+            Err(Reason::CutShort),
+            Err(Reason::Refused(NetFault::ShortColumn)),
         ],
-    ),
-    (
-        0,
-        0,
-        [
-            Err(6),
-            Err(6),
-            Err(6),
-            Err(6),
+    },
+    Replay {
+        entries: 0,
+        wires: 0,
+        answers: [
+            Err(Reason::Refused(NetFault::ShortColumn)),
+            Err(Reason::Refused(NetFault::ShortColumn)),
+            Err(Reason::Refused(NetFault::ShortColumn)),
+            Err(Reason::Refused(NetFault::ShortColumn)),
             Ok(0),
-            Err(6),
-            Err(6),
-            Err(12),
-            Err(6),
+            Err(Reason::Refused(NetFault::ShortColumn)),
+            Err(Reason::Refused(NetFault::ShortColumn)),
+            Err(Reason::CutShort),
+            Err(Reason::Refused(NetFault::ShortColumn)),
         ],
-    ),
+    },
 ];
 
-// What a call answers: a number, or the number of its refusal.
-fn said(answer: Answer) -> Result<usize, u8> {
+// What a call says: a number, or why it is refused.
+fn said(answer: &Answer) -> Result<usize, Reason> {
     match answer {
-        Answer::Placed(Ok(wire)) => Ok(wire),
-        Answer::Placed(Err(fault)) => Err(fault.number()),
-        Answer::Read(Ok(records)) => Ok(records),
-        Answer::Read(Err(fault)) => Err(fault.number()),
+        Answer::Placed(placed) => placed.map_err(Reason::Refused),
+        Answer::Read(read) => read.map_err(|fault| fault.reason),
     }
 }
 
-// Plays the calls with columns of several lengths, and holds what they answer to the table, and each wire to its longest history.
-fn try_replay<L: Graded + Copy>(rt: &impl Abort, heap: Global, algebra: L) -> Result<(), Fail> {
-    let histories = play(heap, &NET_A)?.ok_or("too large to be played")?;
-    for (long, wires, answers) in COLUMNS {
-        let mut column = blank_column(heap, &algebra, long)?;
-        let played = replay(heap, algebra, &mut column, &CALLS)?;
-        assert_eq!(rt; (played.net.wires(), played.answers.len()), (wires, 9));
-        for (answer, expected) in played.answers.iter().zip(answers.iter()) {
-            assert_eq!(rt; said(*answer), *expected);
-        }
-        for (wire, history) in histories.iter().enumerate().take(wires) {
-            algebra.check_grade(rt, played.net.look_up(&column, wire)?, *history)?;
-        }
+// Plays the calls with columns of several lengths, and holds what they say to the table, and each wire to its longest history.
+fn try_replay<L: Graded + Copy>(rt: &(impl Abort + AllocGlobal), algebra: L) -> Result<(), Fail> {
+    let histories = play(rt.alloc(), &net_a::PARTS)?;
+    for case in REPLAYS {
+        let mut column = blank_column(rt.alloc(), &algebra, case.entries)?;
+        let Played { net, answers } = replay(rt.alloc(), algebra, &mut column, &CALLS)?;
+        let said: Vec<_> = answers.iter().map(said).collect(rt.alloc())?;
+        assert_eq!(rt; net.wires(), case.wires, "at {} entries", case.entries);
+        assert_eq!(rt;
+            said.as_slice(),
+            case.answers.as_slice(),
+            "at {} entries",
+            case.entries
+        );
+        let placed = histories.get(..case.wires).ok_or("no such wires")?;
+        Standing { net, column }.check_grades(rt, &algebra, placed)?;
     }
     Ok(())
 }
 
 #[test]
 fn replays(rt: HostRuntime) -> Result<(), Fail> {
-    try_replay(&rt, rt.alloc(), Counted::new(4)?)?;
-    try_replay(&rt, rt.alloc(), Eight)?;
-    try_replay(&rt, rt.alloc(), Five)
+    try_replay(&rt, Counted::new(4)?)?;
+    try_replay(&rt, Eight)?;
+    try_replay(&rt, Five)
 }
