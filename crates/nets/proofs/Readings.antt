@@ -48,13 +48,6 @@ gate_request bytes size kind long = go (get_or bytes 0 0) kind long
         ∙ ap (λ (n : ℕ). ask_gate (b / 16) (pins_in (take n (drop 1 bytes)))) (less (body_size b) long)
 
 -- Why a record that can be read is refused, and that it is not.
-pub record_refused : (ws : List Plain) (long : ℕ) (bytes : List ℕ) (q : Request) (f : NetFault) → misread (get_or bytes 0 0) (drop 1 bytes) ≡ None → request_of bytes ≡ q
-    → refusal (length ws) long q ≡ Some f → reason_of ws long bytes ≡ Some (Refused f)
-record_refused ws long bytes q f read asks refused =
-    ap (λ o. or_else o (carried (refusal (length ws) long (request_of bytes)))) read
-    ∙ ap (λ r. carried (refusal (length ws) long r)) asks
-    ∙ ap carried refused
-
 pub record_admitted : (ws : List Plain) (long : ℕ) (bytes : List ℕ) (q : Request) → misread (get_or bytes 0 0) (drop 1 bytes) ≡ None → request_of bytes ≡ q
     → refusal (length ws) long q ≡ None → reason_of ws long bytes ≡ None
 record_admitted ws long bytes q read asks admitted =

@@ -3,7 +3,7 @@
 use algebras::verdict::Verdict;
 
 /// The start, the end and the verdict of a wire.
-#[derive(Clone, Copy)]
+#[derive(Clone, Copy, PartialEq, Eq, Debug)]
 pub struct Told {
     pub start: bool,
     pub end: bool,

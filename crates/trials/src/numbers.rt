@@ -29,12 +29,12 @@ const RECORD_FAULTS: [(Reason, u8); 2] = [(Reason::UnknownKind, 11), (Reason::Cu
 #[test]
 fn numbers(rt: HostRuntime) {
     for (verdict, number) in VERDICTS {
-        assert_eq!(rt; verdict.number(), number);
+        assert_eq!(rt; u8::from(verdict), number);
     }
-    assert_eq!(rt; CapFault::TooSmall.number(), 1);
+    assert_eq!(rt; u8::from(CapFault::TooSmall), 1);
     for (fault, number) in NET_FAULTS {
         let read = ReadFault::from(fault);
-        assert_eq!(rt; (fault.number(), read.number()), (number, number));
+        assert_eq!(rt; (u8::from(fault), read.number()), (number, number));
         assert_eq!(rt; read.layer(), Layer::Net);
     }
     for (reason, number) in RECORD_FAULTS {

@@ -9,6 +9,7 @@ use algebras::telling::Telling;
 use algebras::verdict::Verdict;
 use nets::fault::{NetFault, ReadFault};
 use nets::net::Net;
+use nets::told::Told;
 use std::alloc::{AllocError, Global};
 use std::ops::{Range, RangeBounds};
 use std::process::Abort;
@@ -82,12 +83,12 @@ impl<L: Telling> Standing<L> {
     /// Checks that of the first wires the starts, ends and verdicts of these histories are told.
     pub(crate) fn check_told(&self, rt: &impl Abort, histories: &[History]) -> Result<(), Fail> {
         for (wire, history) in histories.iter().enumerate() {
-            // `Told` derives no equality, so its fields are compared.
-            let told = self.net.tell(&self.column, wire)?;
-            assert_eq!(rt;
-                (told.start, told.end, told.verdict),
-                (history.start, history.end(), Verdict::from(*history))
-            );
+            let told = Told {
+                start: history.start,
+                end: history.end(),
+                verdict: Verdict::from(*history),
+            };
+            assert_eq!(rt; self.net.tell(&self.column, wire)?, told);
         }
         Ok(())
     }

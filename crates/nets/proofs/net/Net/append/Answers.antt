@@ -9,12 +9,6 @@ use Rattle.nets.proofs.Placements.{within_below, wires_push}
 use Rattle.nets.proofs.Wiring.{lower_push, fitting_push}
 use Rattle.nets.proofs.net.Net.append.Goals as goal
 
-pub push_reserved-requires : goal.push_reserved-requires
-push_reserved-requires g c =
-    let v = c.args.self.now.table.wires in
-    let n = v.ok.0 ∙ sym (length-map (vec_items v) plain) in
-    omega (arith, c.requires.few, c.args.self.now.table.room)
-
 pub invariant_of-self : goal.invariant_of-self
 invariant_of-self g c =
     let v = c.args.self.now.table.wires in

@@ -30,13 +30,6 @@ returns-in_err-wire g c =
       makes = made (settled_refused _ _ _ f s) refl (settled_refused _ _ _ f s) (λ k. k);
     }
 
-pub append-requires : goal.append-requires
-append-requires g c =
-    let room = unless_ok _ _ _ (sym c.in_ok-number.ensures) in
-    let r = room_is _ _ room.0 in
-    let W : ℕ → Type 0 = λ n. Within n (plain c.in_ok-wire.wire) in
-    record { few = r.0; long = r.1; lower = subst W (sym room.1) c.in_ok-wire.ensures.2; fitting = c.in_ok-wire.ensures.3 }
-
 pub returns : goal.returns
 returns g c =
     let n = c.args.self.now in
