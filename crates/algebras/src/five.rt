@@ -18,6 +18,7 @@ pub enum Symbol {
 }
 
 /// A symbol's code. An entry that is no code, from 5 on, is read and worked as ½.
+// A byte and no `Symbol`: a caller's column may hold any byte, and every one is worked.
 #[derive(Clone, Copy, PartialEq, Eq, Debug)]
 pub struct FiveGrade {
     pub code: u8,

@@ -1,5 +1,5 @@
 -- The lines of a listing, one after another, why every wire of a kept column has one, and that they list the longest histories.
-use Rattle.std.proofs.Common.{◌≡◌, ℕ, suc, ◌+◌, ◌<◌, ◌≤◌, Bool, false, cond, List, [], ◌∷◌, ◌++◌, length, get_or, drop, Some, None, Option, Result, String, sym, refl, ap, ◌∙◌, subst, subst₂, ap₂, add-zero, zero-add, add-one, arith}
+use Rattle.std.proofs.Common.{◌≡◌, ℕ, suc, ◌+◌, ◌<◌, ◌≤◌, Bool, false, cond, List, [], ◌∷◌, ◌++◌, length, get_or, drop, Some, None, sym, refl, ap, ◌∙◌, subst, add-zero, zero-add, add-one, arith}
 use Rattle.std.proofs.lemmas.List.{append_assoc, append-nil, at_drop_more, at_drop_all}
 use Rattle.std.proofs.lemmas.Bool.{lt-leb, le-ltb}
 use Rattle.algebras.specs.Transient.{Transient, word, zero_word}
@@ -10,12 +10,7 @@ use Rattle.nets.specs.Wires.{Plain, Lower}
 use Rattle.nets.specs.Transients.{transient, transients}
 use Rattle.nets.proofs.LongestHistories.{transient_longest}
 use Rattle.nets.proofs.Wiring.{length_transients}
-use Rattle.std.specs.declared.alloc.Global.{Global}
-use Rattle.nets.specs.Records.{Outcome, reading}
-use Rattle.listing.specs.declared.fault.Fault.{Fault}
-use Rattle.listing.specs.declared.fault.ListFault.{ListFault}
-use Rattle.listing.specs.Listing.{ListsLongest, LongestLines, cap_in, early_refusal, late_refusal, net_text, or_late, read_in, wire_line, wire_lines}
-use Rattle.listing.specs.Texts.{InputListed, InputTold, Listed, RecordsListed, RecordsTold, ToldAs}
+use Rattle.listing.specs.Listing.{ListsLongest, LongestLines, net_text, wire_line, wire_lines}
 
 -- One line more.
 pub lines_more : (cap w : ℕ) (ts : List Transient) (text text' whole : List ℕ) → w < length ts → text' ≡ text ++ wire_line cap w (get_or ts w zero_word)
@@ -59,20 +54,3 @@ question_passes n long w stands enough = go (lt-leb n w stands) (le-ltb long n e
   where
     go : {a b : Bool} → a ≡ false → b ≡ false → cond a (Some NoSuchWire) (cond b (Some ShortColumn) None) ≡ None
     go {a} {b} p q = rw (p, q)
-
--- What is told of the records of an input that is not refused early is told of the input.
-pub records_input : (r : Result (String Global) Fault) (input records : List ℕ) (cap long : ℕ) → early_refusal input ≡ None → cap ≡ cap_in input → long ≡ 512 → records ≡ drop 2 input
-    → RecordsTold r cap long records → InputTold r input
-records_input r input records cap long early cap_is long_is records_are told =
-    let outcome = ap (λ (n : ℕ). reading n 0 0 0 [] records) long_is ∙ ap (reading 512 0 0 0 []) records_are in
-    let refusal = ap (λ (o : Outcome). late_refusal o.answer) outcome ∙ sym (ap (λ o. or_late o (late_refusal (read_in input).answer)) early) in
-    let P : Option ListFault → List ℕ → Type 0 = λ o text. ToldAs r o text in
-    subst₂ P refusal (ap₂ (λ (n : ℕ) (o : Outcome). net_text n o.wires) cap_is outcome) told
-
--- A text that lists the wires of the records of an input lists those of the input.
-pub input_listed : (r : Result (String Global) Fault) (input records : List ℕ) (cap long : ℕ) → cap ≡ cap_in input → long ≡ 512 → records ≡ drop 2 input
-    → RecordsListed r cap long records → InputListed r input
-input_listed r input records cap long cap_is long_is records_are listed =
-    let outcome = ap (λ (n : ℕ). reading n 0 0 0 [] records) long_is ∙ ap (reading 512 0 0 0 []) records_are in
-    let P : ℕ → List Plain → Type 0 = Listed r in
-    subst₂ P cap_is (ap (λ (o : Outcome). o.wires) outcome) listed

@@ -24,6 +24,7 @@ pub enum ListFault {
 
 impl ListFault {
     /// The number of this refusal.
+    // A method and no conversion, which would drop the place.
     pub fn number(&self) -> u8
         ensures { result ≡ list_fault_number self.now }
     {

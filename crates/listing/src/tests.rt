@@ -3,128 +3,105 @@
 use crate::list::{Report, list};
 use std::test::Fail;
 
-/// An input, what is printed for it, and whether it is refused.
+/// An input, and what is printed for it: a listing, or a refusal.
 struct Case {
     input: &'static [u8],
-    text: &'static str,
-    refused: bool,
+    text: Result<&'static str, &'static str>,
 }
 
 const CASES: [Case; 22] = [
     // Caps.
     Case {
         input: b"",
-        text: "refused 12 input 0 0 0\n",
-        refused: true,
+        text: Err("refused 12 input 0 0 0\n"),
     },
     Case {
         input: b"\x04",
-        text: "refused 12 input 0 0 0\n",
-        refused: true,
+        text: Err("refused 12 input 0 0 0\n"),
     },
     Case {
         input: b"\x00\x00",
-        text: "refused 1 algebra 0 0 0\n",
-        refused: true,
+        text: Err("refused 1 algebra 0 0 0\n"),
     },
     Case {
         input: b"\x01\x00\x99",
-        text: "refused 1 algebra 0 0 0\n",
-        refused: true,
+        text: Err("refused 1 algebra 0 0 0\n"),
     },
     Case {
         input: b"\x02\x00",
-        text: "wires 0 cap 2\n",
-        refused: false,
+        text: Ok("wires 0 cap 2\n"),
     },
     Case {
         input: b"\x04\x00",
-        text: "wires 0 cap 4\n",
-        refused: false,
+        text: Ok("wires 0 cap 4\n"),
     },
     Case {
         input: b"\xff\xff",
-        text: "wires 0 cap 65535\n",
-        refused: false,
+        text: Ok("wires 0 cap 65535\n"),
     },
     // Kind bytes that are no record's.
     Case {
         input: b"\x04\x00\x00",
-        text: "refused 11 record 0 0 0\n",
-        refused: true,
+        text: Err("refused 11 record 0 0 0\n"),
     },
     Case {
         input: b"\x04\x00\x02",
-        text: "refused 11 record 0 0 0\n",
-        refused: true,
+        text: Err("refused 11 record 0 0 0\n"),
     },
     Case {
         input: b"\x04\x00\x01\x00\x01\x92\x00",
-        text: "refused 11 record 3 1 0\n",
-        refused: true,
+        text: Err("refused 11 record 3 1 0\n"),
     },
     // Bodies that are cut.
     Case {
         input: b"\x04\x00\x01",
-        text: "refused 12 record 0 0 0\n",
-        refused: true,
+        text: Err("refused 12 record 0 0 0\n"),
     },
     Case {
         input: b"\x04\x00\x01\x00",
-        text: "refused 12 record 0 0 0\n",
-        refused: true,
+        text: Err("refused 12 record 0 0 0\n"),
     },
     Case {
         input: b"\x04\x00\x01\x00\x01\x21\x00",
-        text: "refused 12 record 3 1 0\n",
-        refused: true,
+        text: Err("refused 12 record 3 1 0\n"),
     },
     // What the net refuses.
     Case {
         input: b"\x04\x00\x01\x02\x00",
-        text: "refused 4 net 0 0 0\n",
-        refused: true,
+        text: Err("refused 4 net 0 0 0\n"),
     },
     Case {
         input: b"\x04\x00\x01\x00\x01\x31\x00\x00",
-        text: "refused 8 net 3 1 0\n",
-        refused: true,
+        text: Err("refused 8 net 3 1 0\n"),
     },
     Case {
         input: b"\x04\x00\x01\x00\x01\x10",
-        text: "refused 8 net 3 1 0\n",
-        refused: true,
+        text: Err("refused 8 net 3 1 0\n"),
     },
     Case {
         input: b"\x04\x00\x01\x00\x01\x32\x00\x00\x01\x00",
-        text: "refused 9 net 3 1 1\n",
-        refused: true,
+        text: Err("refused 9 net 3 1 1\n"),
     },
     Case {
         input: b"\x04\x00\x01\x00\x01\x21\x00\x00\x33\x00\x00\x05\x00\x02\x00",
-        text: "refused 9 net 6 2 1\n",
-        refused: true,
+        text: Err("refused 9 net 6 2 1\n"),
     },
     // Wires of each verdict, and counts below, at and above the cap.
     Case {
         input: b"\x04\x00\x01\x01\x00",
-        text: "wires 1 cap 4\n0 1 1 0 = 1\n",
-        refused: false,
+        text: Ok("wires 1 cap 4\n0 1 1 0 = 1\n"),
     },
     Case {
         input: b"\x04\x00\x01\x00\x02",
-        text: "wires 1 cap 4\n0 0 0 2 = 2\n",
-        refused: false,
+        text: Ok("wires 1 cap 4\n0 0 0 2 = 2\n"),
     },
     Case {
         input: b"\x04\x00\x01\x01\x04",
-        text: "wires 1 cap 4\n0 1 1 4 + 2\n",
-        refused: false,
+        text: Ok("wires 1 cap 4\n0 1 1 4 + 2\n"),
     },
     Case {
         input: b"\x02\x00\x01\x00\xff",
-        text: "wires 1 cap 2\n0 0 1 2 + 4\n",
-        refused: false,
+        text: Ok("wires 1 cap 2\n0 0 1 2 + 4\n"),
     },
 ];
 
@@ -132,8 +109,12 @@ const CASES: [Case; 22] = [
 fn cases(rt: HostRuntime) -> Result<(), Fail> {
     for case in CASES.iter() {
         let report = list(rt.alloc(), case.input)?;
-        assert_eq!(rt; format!(in rt.alloc(); "{report}")?.as_str(), case.text);
-        assert_eq!(rt; matches!(report, Report::Refusal(_)), case.refused);
+        let printed = format!(in rt.alloc(); "{report}")?;
+        let text = match report {
+            Report::Listing(_) => Ok(printed.as_str()),
+            Report::Refusal(_) => Err(printed.as_str()),
+        };
+        assert_eq!(rt; text, case.text);
     }
     Ok(())
 }

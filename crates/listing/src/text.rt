@@ -11,7 +11,7 @@ use algebras::counted::grade::CountedGrade;
 use nets::net::Net;
 use std::alloc::{AllocError, Global};
 
-// The mark of a count: whether it is the cap.
+// The mark of a count: whether it is the cap. A `bool` has no type of its own that could print it.
 fn mark_of(saturated: bool) -> &'static str
     ensures { result.now ≡ mark saturated }
 {

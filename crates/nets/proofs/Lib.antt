@@ -1,4 +1,3 @@
-pub mod Joining
 pub mod Placements
 pub mod Pinning
 pub mod Grading

@@ -3,7 +3,7 @@ use Rattle.std.proofs.Common.{◌≡◌, ℕ, ◌<◌, ◌≤◌, Bool, true, fa
 use Rattle.std.proofs.lemmas.List.{map_push}
 use Rattle.std.proofs.lemmas.Bool.{leb-false, le-ltb}
 use Rattle.nets.specs.declared.fault.NetFault.{NetFault}
-use Rattle.nets.specs.declared.fault.NetFault.TheVariants.{NoSuchWire, BadStart, Full, ShortColumn}
+use Rattle.nets.specs.declared.fault.NetFault.TheVariants.{NoSuchWire, BadStart, ShortColumn}
 use Rattle.nets.specs.Placing.{Request, room_checks, request_checks, refusal, question_checks}
 use Rattle.nets.specs.declared.told.Told.{Told}
 use Rattle.nets.specs.declared.wire.Wire.{Wire}
@@ -59,15 +59,6 @@ unless_refused o x f e = ap (λ p. unless p x) (sym e)
 
 pub settled_refused : {A B : Type 0} (o : Option B) (new old : A) (f : B) → o ≡ Some f → old ≡ settled o new old
 settled_refused o new old f e = ap (λ p. settled p new old) (sym e)
-
--- Where there is room, so many wires stand and so long is the column.
-pub room_is : (n long : ℕ) → first_fault (room_checks n long) ≡ None → (n < 512) × (n < long)
-room_is n long e = go (leb 512 n) (leb long n) refl refl e
-  where
-    go : (a b : Bool) → leb 512 n ≡ a → leb long n ≡ b → cond a (Some Full) (cond b (Some ShortColumn) None) ≡ None → (n < 512) × (n < long)
-    go true b p q e = absurd (let z : ◌≡◌ {A = ℕ} 0 1 = cc in omega arith)
-    go false true p q e = absurd (let z : ◌≡◌ {A = ℕ} 0 1 = cc in omega arith)
-    go false false p q e = (leb-false 512 n p, leb-false long n q)
 
 -- A request is admitted where there is room and its own checks pass, and refused otherwise.
 pub admitted : (n long number : ℕ) (q : Request) → first_fault (room_checks n long) ≡ None → n ≡ number → first_fault (request_checks number q) ≡ None → refusal n long q ≡ None

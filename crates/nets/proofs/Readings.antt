@@ -3,8 +3,7 @@ use Rattle.std.proofs.Common.{◌≡◌, ℕ, zero, suc, ◌+◌, ◌-◌, ◌*�
 use Rattle.std.proofs.lemmas.List.{get_or-take, get_or-drop, length-drop, take_rest}
 use Rattle.std.proofs.lemmas.Bool.{ne_eqb, le-ltb, lt-leb}
 use Rattle.algebras.specs.Letters.{or_of}
-use Rattle.nets.specs.declared.fault.NetFault.{NetFault}
-use Rattle.nets.specs.declared.fault.Reason.TheVariants.{UnknownKind, CutShort, Refused}
+use Rattle.nets.specs.declared.fault.Reason.TheVariants.{UnknownKind, CutShort}
 use Rattle.nets.specs.Placing.{Request, ask_input, ask_gate, refusal}
 use Rattle.nets.specs.Records.{known, is_input, body_size, pins_in, request_at, misread, carried, or_else, record_length, request_of, reason_of, pins_asked, first_high, search_high}
 use Rattle.nets.specs.Wires.{Plain}

@@ -3,6 +3,7 @@
 use crate::fault::{NetFault, ReadFault};
 
 /// A call on a net, by its arguments. The column is brought to it when it is played.
+// Starts and kinds are bytes, as in the calls themselves: every byte is answered or refused.
 #[derive(Clone, Copy)]
 pub enum Call<'a> {
     /// Places an input.

@@ -102,6 +102,7 @@ impl From<NetFault> for ReadFault {
 
 impl ReadFault {
     /// The number of this refusal.
+    // A method and no conversion, which would drop the place.
     pub fn number(&self) -> u8
         ensures { result ≡ reason_number self.now.reason }
     {

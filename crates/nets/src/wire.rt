@@ -14,6 +14,7 @@ pub struct Drive {
 }
 
 /// At most `N` pins: the numbers of the wires that stand on them, from the first pin on.
+// An array and a count, since placing wants no memory, and wires are copied.
 #[derive(Clone, Copy)]
 pub struct Pins<const N: usize> {
     wires: [u16; N],

@@ -1,6 +1,7 @@
 //! The grades of the counted algebra, and why no algebra is made.
 
 /// How many changes a grade counts: so many pairs and, with unequal ends, one more; or the cap.
+// Not an `Option`: a grade that is saturated does not lack a count, and `None` would not say which it is.
 #[derive(Clone, Copy, PartialEq, Eq, Debug)]
 pub enum Count {
     Half(u16),

@@ -40,6 +40,7 @@ impl<L: Algebra> Net<L> {
     }
 
     /// Places an input as the next wire, fills its entry and answers its number.
+    // The start is a byte and no `bool`: every byte is answered, and from 2 on refused.
     pub fn place_input(
         &mut self,
         column: &mut [L::Grade],
@@ -53,6 +54,7 @@ impl<L: Algebra> Net<L> {
     }
 
     /// Places a gate as the next wire, works its grade from its pins' entries, and answers its number.
+    // The kind is a byte and no `Kind`: every byte is answered, and one that is no kind's number refused.
     pub fn place_gate(
         &mut self,
         column: &mut [L::Grade],

@@ -26,7 +26,8 @@ impl<const N: usize> Pins<N> {
         Pins { wires, count }
     }
 
-    // The pins in the body of a gate's record.
+    // The pins in the body of a gate's record. They are written by place, since nothing is known of an array that an adapter of
+    // `iter_mut` wrote.
     pub(crate) fn decode(body: &[u8]) -> Pins<N>
         requires { length body.now ≤ N + N }
         ensures { pin_list result ≡ pins_in body.now }

@@ -1,12 +1,11 @@
-use Rattle.std.proofs.Common.{ℕ, [], ◌∷◌, ◌++◌, length, set, Ok, Err, sym, refl, ap, ◌∙◌, subst}
+use Rattle.std.proofs.Common.{[], ◌∷◌, ◌++◌, length, set, Ok, Err, sym, refl, ap, ◌∙◌}
 use Rattle.std.proofs.lemmas.Result.{err_from_is_err_and}
 use Rattle.nets.specs.Nets.{net_wires}
 use Rattle.nets.specs.Placing.{plain_request}
-use Rattle.nets.specs.Wires.{Plain, Within}
-use Rattle.nets.specs.Tables.{plain}
+use Rattle.nets.specs.Wires.{Plain}
 use Rattle.nets.specs.Working.{worked}
 use Rattle.nets.proofs.Followed.{made}
-use Rattle.nets.proofs.Placements.{unless_ok, unless_err, unless_passed, settled_passed, unless_refused, settled_refused, room_is, admitted, refused_room, refused_request}
+use Rattle.nets.proofs.Placements.{unless_ok, unless_err, unless_passed, settled_passed, unless_refused, settled_refused, admitted, refused_room, refused_request}
 use Rattle.nets.proofs.net.Net.place.Goals as goal
 
 pub returns-in_err-number : goal.returns-in_err-number
