@@ -1,6 +1,6 @@
 -- The lines of a listing, one after another, why every wire of a kept column has one, and that they list the longest histories.
 use Rattle.std.proofs.Common.{◌≡◌, ℕ, suc, ◌+◌, ◌<◌, ◌≤◌, Bool, false, cond, List, [], ◌∷◌, ◌++◌, length, get_or, drop, Some, None, sym, refl, ap, ◌∙◌, subst, add-zero, zero-add, add-one, arith}
-use Rattle.std.proofs.lemmas.List.{append_assoc, append-nil, at_drop_more, at_drop_all}
+use Rattle.std.proofs.lemmas.List.{append_assoc, at_drop_more}
 use Rattle.std.proofs.lemmas.Bool.{lt-leb, le-ltb}
 use Rattle.algebras.specs.Transient.{Transient, word, zero_word}
 use Rattle.nets.specs.declared.fault.NetFault.TheVariants.{NoSuchWire, ShortColumn}
@@ -21,10 +21,6 @@ lines_more cap w ts text text' whole within written left =
     ∙ ap (λ (n : ℕ). text ++ (wire_line cap w (get_or ts w zero_word) ++ wire_lines cap n (drop (w + 1) ts))) (add-one w)
     ∙ ap (λ x. text ++ x) (sym (at_drop_more (wire_lines cap w) ts w zero_word within))
     ∙ left
-
--- No line is left.
-pub lines_all : (cap w : ℕ) (ts : List Transient) (text whole : List ℕ) → length ts ≤ w → text ++ wire_lines cap w (drop w ts) ≡ whole → text ≡ whole
-lines_all cap w ts text whole past left = sym (append-nil text) ∙ ap (λ x. text ++ x) (sym (at_drop_all (wire_lines cap w) ts w past)) ∙ left
 
 -- The lines of transients that are those of a net's wires, from wire w on, give the figures of the longest histories.
 pub longest_lines : (cap : ℕ) (net : List Plain) → Lower net → (w : ℕ) (ts : List Transient)

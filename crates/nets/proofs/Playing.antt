@@ -1,15 +1,14 @@
 -- Playing calls one after another: what one call does to what is left, and what stands at the end.
-use Rattle.std.proofs.Common.{◌≡◌, ℕ, ◌+◌, ◌<◌, ◌≤◌, List, [], ◌∷◌, ◌++◌, length, get_or, take, drop, Some, None, Option, sym, refl, ap, ◌∙◌, subst, ap₂, subst₂}
-use Rattle.std.proofs.lemmas.List.{append_assoc, append-nil, at_drop_all, at_drop_more, map_more, take_all}
+use Rattle.std.proofs.Common.{◌≡◌, ℕ, ◌≤◌, List, ◌++◌, length, take, drop, Some, None, Option, sym, refl, ap, ◌∙◌, subst, subst₂}
+use Rattle.std.proofs.lemmas.List.{append-nil, at_drop_all, take_all}
 use Rattle.algebras.specs.declared.algebra.Algebra.{Ghosts}
 use Rattle.algebras.specs.Transient.{Transient}
 use Rattle.nets.specs.declared.call.Answer.{Answer}
 use Rattle.nets.specs.declared.call.Call.{Call}
-use Rattle.nets.specs.declared.call.Call.TheVariants.{PlaceInput}
 use Rattle.nets.specs.declared.net.Net.{Net}
 use Rattle.nets.specs.Asking.{answer_of_asking, grade_of, looked_up}
 use Rattle.nets.specs.Arrivals.{LongestInTurn}
-use Rattle.nets.specs.Calls.{PlainCall, answer_step, answers_after, column_after, column_step, plain_call, plain_calls, plain_of, plain_step}
+use Rattle.nets.specs.Calls.{PlainCall, answers_after, column_after, plain_calls, plain_of}
 use Rattle.nets.specs.Faults.{unless}
 use Rattle.nets.specs.Following.{Follows, LooksUpLongest}
 use Rattle.nets.specs.Nets.{ColumnKept, net_wires}
@@ -18,35 +17,6 @@ use Rattle.nets.proofs.Followed.{looks_up_follows}
 use Rattle.nets.proofs.Grading.{standing_kept}
 use Rattle.nets.proofs.LongestHistories.{longest_in_turn}
 use Rattle.nets.proofs.Placements.{asked_stands}
-
--- One call of those that are left is played.
-module _ (long : ℕ) (calls : List Call) (i : ℕ) (within : i < length calls) where
-  -- It answers next.
-  pub answers_turn : (ws next : List Plain) (answers more all : List Answer)
-      → more ≡ answers ++ answer_step ws (plain_call long (get_or calls i (PlaceInput 0 0))) ∷ []
-      → next ≡ plain_step ws (plain_call long (get_or calls i (PlaceInput 0 0)))
-      → answers ++ answers_after ws (plain_calls long (drop i calls)) ≡ all
-      → more ++ answers_after next (plain_calls long (drop (i + 1) calls)) ≡ all
-  answers_turn ws next answers more all answer net left =
-      ap₂ (λ (rs : List Answer) (vs : List Plain). rs ++ answers_after vs (plain_calls long (drop (i + 1) calls))) answer net
-      ∙ append_assoc answers _ _
-      ∙ sym (ap (λ (rs : List Answer). answers ++ rs) (at_drop_more (λ (cs : List Call). answers_after ws (plain_calls long cs)) calls i (PlaceInput 0 0) within))
-      ∙ left
-
-  -- It leaves the column for those after it.
-  pub column_turn : {X G : Type 0} (L : Ghosts X G) (a : X) (ws next : List Plain) (column rest all : List G)
-      → next ≡ plain_step ws (plain_call long (get_or calls i (PlaceInput 0 0)))
-      → rest ≡ column_step L a ws column (plain_call long (get_or calls i (PlaceInput 0 0)))
-      → column_after L a ws column (plain_calls long (drop i calls)) ≡ all
-      → column_after L a next rest (plain_calls long (drop (i + 1) calls)) ≡ all
-  column_turn {G = G} L a ws next column rest all net filled left =
-      ap₂ (λ (vs : List Plain) (c : List G). column_after L a vs c (plain_calls long (drop (i + 1) calls))) net filled
-      ∙ sym (at_drop_more (λ (cs : List Call). column_after L a ws column (plain_calls long cs)) calls i (PlaceInput 0 0) within)
-      ∙ left
-
-  -- The calls played, and it.
-  pub calls_turn : plain_calls long (take i calls) ++ plain_call long (get_or calls i (PlaceInput 0 0)) ∷ [] ≡ plain_calls long (take (i + 1) calls)
-  calls_turn = sym (map_more (plain_call long) calls i (PlaceInput 0 0) within)
 
 -- Nothing is left.
 module _ (long : ℕ) (calls : List Call) (i : ℕ) (past : length calls ≤ i) where

@@ -1,6 +1,6 @@
 -- Writing records one after another, and what stands in the buffer after them.
 use Rattle.std.proofs.Common.{◌≡◌, ℕ, suc, ◌+◌, ◌-◌, ◌*◌, ◌/◌, ◌%◌, ◌<◌, ◌≤◌, Bool, cond, List, [], ◌∷◌, ◌++◌, map, length, get_or, take, drop, set, sum_by, Some, None, sym, refl, ap, ◌∙◌, arith}
-use Rattle.std.proofs.lemmas.List.{append_assoc, at_drop_more, at_drop_all, length-append, length-drop, length_push, length-set, length-take, length-take-le, set_at, take-append-drop}
+use Rattle.std.proofs.lemmas.List.{append_assoc, at_drop_more, length-append, length-drop, length_push, length-set, length-take, length-take-le, set_at, take-append-drop}
 use borrow.Rule.Slice.PartMut.{put_mid}
 use mir.Val.{bool_byte}
 use Rattle.std.proofs.lemmas.List.Sums.{sum_by-cons}
@@ -103,9 +103,6 @@ records_more vs i v within read =
     at_drop_more (λ (us : List Wire). records_of (map plain us)) vs i v within
     ∙ ap (λ (u : Wire). record_of (plain u) ++ records_from vs (i + 1)) (sym read)
 
-pub records_none : (vs : List Wire) (i : ℕ) → length vs ≤ i → records_from vs i ≡ []
-records_none vs i past = at_drop_all (λ (us : List Wire). records_of (map plain us)) vs i past
-
 -- The size of one record more.
 pub size_more : (vs : List Wire) (i : ℕ) (v : Wire) → i < length vs → v ≡ get_or vs i v
     → length (records_from vs i) ≡ length (record_of (plain v)) + length (records_from vs (i + 1))
@@ -128,9 +125,6 @@ written_more vs i v xs ys at after within read writes ends =
     ∙ ap (λ (n : ℕ). written_over (written_over xs at (record_of (plain v))) n (records_from vs (i + 1))) ends
     ∙ sym (written_append xs at (record_of (plain v)) (records_from vs (i + 1)))
     ∙ sym (ap (written_over xs at) (records_more vs i v within read))
-
-pub written_none : (vs : List Wire) (i : ℕ) (xs : List ℕ) (at : ℕ) → length vs ≤ i → written_over xs at (records_from vs i) ≡ xs
-written_none vs i xs at past = ap (written_over xs at) (records_none vs i past)
 
 -- One pin more is written, and none is left.
 pub pins_written : (ps : List ℕ) (i : ℕ) (xs ys bs : List ℕ) (from : ℕ) → i < length ps → get_or ps i 0 < 65536 → from + 2 * i + 2 ≤ length xs
