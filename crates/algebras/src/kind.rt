@@ -46,6 +46,7 @@ impl From<Kind> for u8 {
 
     /// The number of a kind.
     fn from(kind: Kind) -> u8 {
+        // An enum becomes its number by `as` alone.
         kind as u8
     }
 }
@@ -57,8 +58,9 @@ impl Kind {
     {
         match self {
             Kind::Buffer | Kind::Inverter => pins == 1,
-            Kind::And | Kind::Or | Kind::Xor | Kind::Nand | Kind::Nor | Kind::Xnor => 2 <= pins
-                && pins <= 8,
+            Kind::And | Kind::Or | Kind::Xor | Kind::Nand | Kind::Nor | Kind::Xnor => {
+                (2..=8).contains(&pins)
+            }
         }
     }
 }

@@ -40,6 +40,7 @@ impl From<Verdict> for u8 {
 
     /// The number of a verdict.
     fn from(verdict: Verdict) -> u8 {
+        // An enum becomes its number by `as` alone.
         verdict as u8
     }
 }

@@ -57,6 +57,7 @@ impl From<CapFault> for ListFault {
 }
 
 /// Why there is no listing: the input is refused, or there is no memory for the text.
+// No `Option`: an error of two causes, which `?` makes.
 #[derive(Clone, Copy)]
 pub enum Fault {
     Memory,

@@ -19,6 +19,7 @@ use std::fmt;
 pub const MOST: usize = 16384;
 
 /// What is told of an input: its listing, or why there is none.
+// No `Result`: both cases are printed, each as its contract says.
 #[derive(Drop)]
 pub enum Report {
     Listing(String),
@@ -26,8 +27,6 @@ pub enum Report {
 }
 
 impl fmt::Display for Report {
-    ghost use Rattle.listing.specs.Reports.{report_text};
-
     ghost output = { λ r. Some (report_text r) };
 
     /// Prints the listing, or the one line of the refusal.

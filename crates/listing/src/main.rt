@@ -14,6 +14,7 @@ use std::process::ExitCode;
 
 fn main(rt: HostRuntime) -> anyhow::Result<ExitCode> {
     let mut input = Vec::new(rt.alloc());
+    // No conversion of a `usize` to a `u64` is without loss on every machine, so there is no `From`.
     rt.stdin().take(MOST as u64 + 1).read_to_end(&mut input)?;
     let report = list(rt.alloc(), input.as_slice())?;
     rt.print(&report)?;

@@ -124,8 +124,8 @@ fn long_input(rt: &HostRuntime, bytes: usize) -> Result<Vec<u8>, Fail> {
     let mut input = Vec::new(rt.alloc());
     input.push(4)?;
     input.push(0)?;
-    for i in 2..bytes {
-        input.push(if i % 3 == 2 { 1 } else { 0 })?;
+    for byte in [1, 0, 0].iter().cycle().take(bytes.saturating_sub(2)) {
+        input.push(*byte)?;
     }
     Ok(input)
 }
@@ -143,6 +143,6 @@ fn long_inputs(rt: HostRuntime) -> Result<(), Fail> {
         "refused 13 input 0 0 0\n"
     );
     let full = list(rt.alloc(), long_input(&rt, 1538)?.as_slice())?;
-    assert_eq!(rt; matches!(full, Report::Refusal(_)), false);
+    assert!(rt; matches!(full, Report::Listing(_)));
     Ok(())
 }

@@ -33,6 +33,7 @@ impl From<NetFault> for u8 {
 
     /// The number of a refusal.
     fn from(fault: NetFault) -> u8 {
+        // An enum becomes its number by `as` alone.
         fault as u8
     }
 }

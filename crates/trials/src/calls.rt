@@ -8,7 +8,7 @@ use nets::fault::NetFault;
 use std::process::Abort;
 use std::test::*;
 
-// A wire that is to be placed. Its fields have no names, so that each call of the table is one line.
+// A wire that is to be placed. Its fields, other than those of a `Call`, have no names, so that each call of the table is one line.
 #[derive(Clone, Copy, Debug)]
 enum Wanted {
     // An input, with its start and its changes.

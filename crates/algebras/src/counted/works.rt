@@ -21,6 +21,7 @@ impl From<CapFault> for u8 {
 
     /// The number of a refusal.
     fn from(fault: CapFault) -> u8 {
+        // An enum becomes its number by `as` alone.
         fault as u8
     }
 }
@@ -53,7 +54,7 @@ impl Counted {
                 .saturating_mul(2)
                 .saturating_add(u16::from(x.start ^ x.end))
                 .min(self.cap()),
-            Count::Saturated => self.cap,
+            Count::Saturated => self.cap(),
         }
     }
 
@@ -87,6 +88,7 @@ impl Counting for Counted {
 
     fn of_changes(&self, start: bool, end: bool, changes: u32) -> CountedGrade {
         let count = if changes < u32::from(self.cap) {
+            // The half fits, and `try_from(..).unwrap()` would say no more.
             Count::Half((changes / 2) as u16)
         } else {
             Count::Saturated
@@ -130,6 +132,7 @@ impl Algebra for Counted {
 
     ghost reads_alike = { λ a x y e. alike_parts a.«cap» x y (read_apart a.«cap» x y e) };
 
+    // An `impl` has each method itself, so these only hand on.
     fn drive(&self, start: bool, changes: u8) -> CountedGrade {
         counting::drive(self, start, changes)
     }
@@ -166,6 +169,7 @@ impl Telling for Counted {
 
     ghost verdicts = { λ a x. verdict_of (stands_for a.«cap» x) };
 
+    // A start and an end are fields: there is nothing to share with another algebra.
     fn start(&self, x: CountedGrade) -> bool {
         x.start
     }

@@ -80,6 +80,7 @@ impl Algebra for Eight {
 
     ghost reads_alike = { Prim.search rules };
 
+    // An `impl` has each method itself, so these only hand on.
     fn drive(&self, start: bool, changes: u8) -> EightGrade {
         counting::drive(self, start, changes)
     }
@@ -116,6 +117,7 @@ impl Telling for Eight {
 
     ghost verdicts = { λ a x. verdict_of (stands_for x) };
 
+    // A start and an end are fields: there is nothing to share with another algebra.
     fn start(&self, x: EightGrade) -> bool {
         x.start
     }

@@ -11,6 +11,8 @@ ghost use Rattle.std.proofs.Common.{rules};
 use crate::algebra::Algebra;
 use crate::five::{Five, FiveGrade, Symbol};
 
+// The operations are constant tables of codes, so that each can be read and checked as a whole.
+
 // The complement of each code.
 const COMPLEMENTS: [u8; 5] = [1, 0, 3, 2, 4];
 
@@ -46,7 +48,19 @@ impl From<Symbol> for u8 {
 
     /// The code of a symbol.
     fn from(symbol: Symbol) -> u8 {
+        // An enum becomes its number by `as` alone.
         symbol as u8
+    }
+}
+
+impl From<Symbol> for FiveGrade {
+    ghost from_gives = { λ s x. x ≡ record { code = symbol_code s } };
+
+    /// The grade of the transients with a symbol.
+    fn from(symbol: Symbol) -> FiveGrade {
+        FiveGrade {
+            code: u8::from(symbol),
+        }
     }
 }
 
@@ -120,15 +134,11 @@ impl Algebra for Five {
             (true, 1) => Symbol::Fall,
             (_, _) => Symbol::Half,
         };
-        FiveGrade {
-            code: symbol.into(),
-        }
+        symbol.into()
     }
 
     fn read(&self, x: FiveGrade) -> FiveGrade {
-        FiveGrade {
-            code: self.symbol(x).into(),
-        }
+        self.symbol(x).into()
     }
 
     fn complement(&self, x: FiveGrade) -> FiveGrade {

@@ -96,7 +96,7 @@ impl<L: Algebra> Net<L> {
         Ok(number)
     }
 
-    // Appends a wire and fills its entry.
+    // Appends a wire and fills its entry. A step of placing, which promises what the call needs of it.
     fn append(&mut self, column: &mut [L::Grade], wire: Wire)
         requires few { length (net_wires self.old) < 512 }
         requires long { length (net_wires self.old) < length column.old }

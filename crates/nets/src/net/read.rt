@@ -15,7 +15,7 @@ use crate::records::decode::first_high_pin;
 use algebras::algebra::Algebra;
 
 impl<L: Algebra> Net<L> {
-    // Places the record that these bytes begin with, and answers its length.
+    // Places the record that these bytes begin with, and answers its length. A step of reading, which promises what the call needs of it.
     fn place_record(&mut self, column: &mut [L::Grade], bytes: &[u8]) -> Result<usize, ReadFault>
         requires { 0 < length bytes.now }
         ensures answer { result ≡ unless (option_map unplaced (reason_of_record self.old column.old bytes.now)) (record_length bytes.now) }
@@ -38,6 +38,7 @@ impl<L: Algebra> Net<L> {
         let wires = self.wires();
         let mut rest = bytes;
         let mut records = 0;
+        // Each record tells its own length, so no `for` goes over them.
         while !rest.is_empty() {
             match self.place_record(column, rest) {
                 Ok(size) => {

@@ -45,7 +45,7 @@ fn records_size(wires: &[Wire]) -> usize
     requires { length wires.now ≤ 512 }
     ensures { result ≡ length (records_of (map plain wires.now)) }
 {
-    wires.iter().map(|wire| wire_size(wire)).sum()
+    wires.iter().map(wire_size).sum()
 }
 
 // Writes the records of wires to the front of a buffer.
@@ -59,7 +59,7 @@ fn write_records(wires: &[Wire], buffer: &mut [u8])
     }
 }
 
-// Writes the record of a wire into a buffer from a place on, and answers the place after it.
+// Writes the record of a wire into a buffer from a place on, and answers the place after it, from which the next is written.
 fn write_record(wire: &Wire, buffer: &mut [u8], at: usize) -> usize
     requires { at + length (record_of (plain wire.now)) ≤ length buffer.old }
     ensures answer { result ≡ at + length (record_of (plain wire.now)) }
@@ -73,6 +73,7 @@ fn write_record(wire: &Wire, buffer: &mut [u8], at: usize) -> usize
         }
         Wire::Output(gate) => {
             let pins = gate.pins.as_slice();
+            // A gate has eight pins at most, and `try_from(..).unwrap()` would say no more.
             buffer[at] = 16 * u8::from(gate.kind) + pins.len() as u8;
             write_pins(pins, buffer, at + 1)
         }

@@ -16,7 +16,7 @@ use algebras::kind::Kind;
 // The kind byte of an input's record.
 pub(crate) const INPUT: u8 = 0x01;
 
-// The length of the record that a kind byte begins.
+// The length of the record that a kind byte begins, of which any is answered.
 fn record_size(kind: u8) -> Result<usize, Reason>
     ensures { result ≡ unless (if known kind then None else Some UnknownKind) (suc (body_size kind)) }
 {
@@ -29,7 +29,7 @@ fn record_size(kind: u8) -> Result<usize, Reason>
     }
 }
 
-impl Request<Pins<15>> {
+impl Record {
     // The record that these bytes begin with, and its length.
     pub(crate) fn first(bytes: &[u8]) -> Result<(Record, usize), Reason>
         requires { 0 < length bytes.now }
@@ -53,7 +53,7 @@ impl Request<Pins<15>> {
         Ok((record, size))
     }
 
-    // What this record asks for, with its pins lent.
+    // What this record asks for, with its pins lent: a method, whose name says so, and no conversion.
     pub(crate) fn lent(&self) -> Request<&[u16]>
         ensures { plain_request result ≡ record_request self.now }
     {
@@ -94,6 +94,7 @@ pub(crate) fn first_high_pin(bytes: &[u8], wires: usize) -> Option<usize>
             let Ok((record, size)) = Record::first(rest) else {
                 break 'search None;
             };
+            // Both searches are left at once, by the label.
             for (pin, named) in record.pins().iter().enumerate() {
                 if usize::from(*named) >= wire {
                     break 'search Some(pin);

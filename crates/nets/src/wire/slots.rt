@@ -58,7 +58,7 @@ fn names_high(pins: &[u16], wire: usize) -> bool
 }
 
 impl Gate {
-    // The gate of that kind and these pins as wire number `wire`, or why there is none.
+    // The gate of that kind and these pins as wire number `wire`, or why there is none. The kind is a byte, of which any is answered.
     pub(crate) fn asked(kind: u8, pins: &[u16], wire: usize) -> Result<Gate, NetFault>
         ensures { MatchResult result (λ g. (first_fault (request_checks wire (ask_gate kind pins.now)) ≡ None) × (plain (Output g) ≡ asked (ask_gate kind pins.now)) × Within wire (plain (Output g)) × (fits (plain (Output g)) ≡ true)) (λ f. first_fault (request_checks wire (ask_gate kind pins.now)) ≡ Some f) }
     {

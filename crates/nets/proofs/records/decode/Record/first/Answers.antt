@@ -2,7 +2,7 @@ use Rattle.std.proofs.Common.{◌/◌, get_or, sym, ap, ◌∙◌}
 use Rattle.nets.specs.Placing.{ask_gate}
 use Rattle.nets.proofs.Placements.{unless_ok}
 use Rattle.nets.proofs.Readings.{gate_request, known_from, readable}
-use Rattle.nets.proofs.records.decode.Request+Pins+15.first.Goals as goal
+use Rattle.nets.proofs.records.decode.Record.first.Goals as goal
 
 pub returns-else-bytes-eq-INPUT : goal.returns-else-bytes-eq-INPUT
 returns-else-bytes-eq-INPUT c =
