@@ -57,7 +57,7 @@ impl From<CapFault> for ListFault {
 }
 
 /// Why there is no listing: the input is refused, or there is no memory for the text.
-// No `Option`: an error of two causes, which `?` makes.
+// No `Option`: an error with two causes, each of which `?` converts.
 #[derive(Clone, Copy)]
 pub enum Fault {
     Memory,

@@ -86,6 +86,7 @@ fn write_pins(pins: &[u16], buffer: &mut [u8], from: usize) -> usize
     ensures answer { result ≡ from + length (pin_bytes pins.now) }
     ensures buffer { buffer.new ≡ written_over buffer.old from (pin_bytes pins.now) }
 {
+    // By place, since nothing is known of a buffer that an adapter of `chunks_exact_mut` wrote.
     for (pin, named) in pins.iter().enumerate() {
         let at = from + 2 * pin;
         buffer[at..at + 2].copy_from_slice(&named.to_le_bytes());
