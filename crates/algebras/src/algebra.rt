@@ -27,6 +27,7 @@ pub trait Algebra {
     ghost alikes: { Self → Self.Grade → Self.Grade → Bool };
 
     /// The grade of a drive: the word with that start and so many changes.
+    // Two arguments and no struct: the drives of inputs are of nets, which stand above.
     fn drive(&self, start: bool, changes: u8) -> Self::Grade
         ensures { result ≡ grade self.now (driven start changes) };
 

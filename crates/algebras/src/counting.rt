@@ -32,7 +32,7 @@ pub(crate) trait Counting {
     fn parts(&self, x: Self::Entry) -> Parts
         ensures { Known (cap self.now) (stands_for self.now x) result.start result.«end» result.count };
 
-    // The entry with this start, end and number of changes.
+    // The entry with this start, end and number of changes, which may be more than an entry counts, so that these are no `Parts`.
     fn of_changes(&self, start: bool, end: bool, changes: u32) -> Self::Entry
         ensures { result ≡ makes self.now start «end» changes };
 

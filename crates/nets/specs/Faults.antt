@@ -1,4 +1,4 @@
--- The refusals of a net, by number, and the first of several checks that refuses.
+-- The refusals of a net, by number, the names of layers, and the first of several checks that refuses.
 use Rattle.std.specs.Prelude.{ℕ, Bool, cond, List, [], ◌∷◌, Some, None, codes, Ok, Err, Option, Result}
 use Rattle.nets.specs.declared.fault.Layer.{Layer}
 use Rattle.nets.specs.declared.fault.Layer.TheVariants.{Input, Record, Algebra, Net}

@@ -71,7 +71,8 @@ pub enum Reason {
     Refused(NetFault),
 }
 
-/// A refused record: why, the offset of its first byte, the number that its wire would have had, and the pin at fault.
+/// A refused record: why, the offset of its first byte, the number that its wire would have had, and the pin at fault, or 0.
+// The parts of its place are public fields, which callers compare and print one by one, and the pin is 0 in the table of refusals.
 #[derive(Clone, Copy, PartialEq, Eq, Debug)]
 pub struct ReadFault {
     pub reason: Reason,

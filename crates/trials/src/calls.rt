@@ -17,7 +17,7 @@ enum Wanted {
     Gate(u8, &'static [u16]),
 }
 
-// Inputs that stand, entries of the column, a call that places, and what it answers.
+// Inputs that stand, entries of the column, a call that places, and what it answers: side by side, as a row of a table.
 #[derive(Clone, Copy, Debug)]
 struct Placement {
     inputs: usize,

@@ -98,7 +98,7 @@ const REPLAYS: [Replay; 3] = [
     },
 ];
 
-// What a call says: a number, or why it is refused.
+// What a call says: a number, or why it is refused. An answer of either kind, so no conversion of one type.
 fn said(answer: &Answer) -> Result<usize, Reason> {
     match answer {
         Answer::Placed(placed) => placed.map_err(Reason::Refused),

@@ -6,7 +6,7 @@ use crate::simulator::Part::{Gate, Input};
 use crate::simulator::{Function, Part};
 use std::test::*;
 
-// A net, and the words of its wires.
+// A net, and the words of its wires: beside it, since other tests have net A without words.
 #[derive(Clone, Copy)]
 struct Worked {
     net: &'static [Part],
