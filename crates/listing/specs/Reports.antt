@@ -1,16 +1,14 @@
--- What a report prints, and what it refuses.
-use Rattle.std.specs.Prelude.{ℕ, List, Some, None, Option, string_bytes}
-use Rattle.listing.specs.declared.fault.ListFault.{ListFault}
+-- What a report prints, and whether it is a refusal.
+use Rattle.std.specs.Prelude.{ℕ, Bool, true, false, List, string_bytes}
 use Rattle.listing.specs.declared.list.Report.{Report}
 use Rattle.listing.specs.declared.list.Report.TheVariants.{Listing, Refusal}
-use Rattle.listing.specs.Listing.{refused_text}
 
 -- The text that is printed for a report.
 abbrev pub report_text : Report → List ℕ
 report_text (Listing text) = string_bytes text
-report_text (Refusal f) = refused_text f
+report_text (Refusal text) = string_bytes text
 
--- The refusal that a report tells, if it tells one.
-abbrev pub report_refusal : Report → Option ListFault
-report_refusal (Listing text) = None
-report_refusal (Refusal f) = Some f
+-- Whether a report is the line of a refusal.
+abbrev pub is_refusal : Report → Bool
+is_refusal (Listing text) = false
+is_refusal (Refusal text) = true

@@ -1,13 +1,14 @@
 //! What the listing refuses.
 
-ghost use Rattle.std.specs.Prelude.{◌≡◌};
-ghost use Rattle.listing.specs.Listing.{list_fault_layer, list_fault_number};
+ghost use Rattle.std.specs.Prelude.{◌≡◌, Some};
+ghost use Rattle.listing.specs.Listing.{list_fault_layer, list_fault_number, refused_text};
 ghost use Rattle.listing.specs.declared.fault.Fault.TheVariants.{Memory, Refused};
 ghost use Rattle.listing.specs.declared.fault.ListFault.TheVariants.{Cap as CapRefused, Read as ReadRefused};
 
 use algebras::counted::grade::CapFault;
 use nets::fault::{Layer, ReadFault};
 use std::alloc::AllocError;
+use std::fmt;
 
 /// Why an input is not listed.
 #[derive(Clone, Copy)]
@@ -45,6 +46,21 @@ impl ListFault {
             ListFault::Cap(_) => Layer::Algebra,
             ListFault::Read(fault) => fault.layer(),
         }
+    }
+}
+
+impl fmt::Display for ListFault {
+    ghost output = { λ f. Some (refused_text f) };
+
+    /// Prints the one line of this refusal, with its end.
+    fn fmt<W: fmt::Write>(&self, f: &mut fmt::Formatter<W>) -> fmt::Result {
+        let number = self.number();
+        let layer = self.layer();
+        let (offset, wire, pin) = match self {
+            ListFault::Read(fault) => (fault.offset, fault.wire, fault.pin),
+            _ => (0, 0, 0),
+        };
+        writeln!(f, "refused {number} {layer} {offset} {wire} {pin}")
     }
 }
 

@@ -1,8 +1,8 @@
 //! Listing the net that an input holds.
 
-ghost use Rattle.std.specs.Prelude.{◌≡◌, ◌≤◌, length, IfOk, Some, None, MatchResult};
+ghost use Rattle.std.specs.Prelude.{◌≡◌, ◌≤◌, false, length, is_some, IfOk, Some, None, MatchResult};
 ghost use Rattle.listing.specs.Listing.{ListsLongest, cap_in, early_refusal, list_refusal, listing_text, read_in};
-ghost use Rattle.listing.specs.Reports.{report_refusal, report_text};
+ghost use Rattle.listing.specs.Reports.{is_refusal, report_text};
 ghost use Rattle.listing.specs.Texts.{InputListed, InputTold, RecordsListed, RecordsTold};
 
 use crate::fault::{Fault, ListFault};
@@ -13,35 +13,25 @@ use algebras::counted::grade::CountedGrade;
 use nets::call::{Answer, Call};
 use nets::net::play::replay;
 use std::alloc::{AllocError, Global};
-use std::fmt;
 
 /// The most bytes that an input may have.
 pub const MOST: usize = 16384;
 
-/// What is told of an input: its listing, or why there is none.
-// No `Result`: both cases are printed, each as its contract says.
+/// What is printed for an input: its listing, or the line of its refusal.
+// No `Result`: both cases are texts to be printed, and neither ends a caller's work.
 #[derive(Drop)]
 pub enum Report {
     Listing(String),
-    Refusal(ListFault),
+    Refusal(String),
 }
 
-impl fmt::Display for Report {
-    ghost output = { λ r. Some (report_text r) };
-
-    /// Prints the listing, or the one line of the refusal.
-    fn fmt<W: fmt::Write>(&self, f: &mut fmt::Formatter<W>) -> fmt::Result {
+impl Report {
+    /// The text that is printed.
+    pub fn text(&self) -> &str
+        ensures { result.now ≡ report_text self.now }
+    {
         match self {
-            Report::Listing(text) => f.write_str(text.as_str()),
-            Report::Refusal(fault) => {
-                let number = fault.number();
-                let layer = fault.layer();
-                let (offset, wire, pin) = match fault {
-                    ListFault::Read(fault) => (fault.offset, fault.wire, fault.pin),
-                    _ => (0, 0, 0),
-                };
-                writeln!(f, "refused {number} {layer} {offset} {wire} {pin}")
-            }
+            Report::Listing(text) | Report::Refusal(text) => text.as_str(),
         }
     }
 }
@@ -94,15 +84,18 @@ fn input_text(heap: Global, input: &[u8]) -> Result<String, Fault>
     records_text(heap, algebra, column.as_mut_slice(), &input[2..])
 }
 
-/// Lists the net that an input holds, or answers why it is refused. The report prints as the text for the input.
+/// Reports on an input: its listing, or the line of its refusal.
 pub fn list(heap: Global, input: &[u8]) -> Result<Report, AllocError>
     ensures text { IfOk result (λ r. report_text r ≡ listing_text input.now) }
-    ensures refused { IfOk result (λ r. report_refusal r ≡ list_refusal input.now) }
-    ensures longest { IfOk result (λ r. (report_refusal r ≡ None → ListsLongest (cap_in input.now) (read_in input.now).wires (report_text r))) }
+    ensures refused { IfOk result (λ r. is_refusal r ≡ is_some (list_refusal input.now)) }
+    ensures longest { IfOk result (λ r. (is_refusal r ≡ false → ListsLongest (cap_in input.now) (read_in input.now).wires (report_text r))) }
 {
     match input_text(heap, input) {
         Ok(text) => Ok(Report::Listing(text)),
         Err(Fault::Memory) => Err(AllocError),
-        Err(Fault::Refused(fault)) => Ok(Report::Refusal(fault)),
+        Err(Fault::Refused(fault)) => {
+            let line = format!(in heap; "{fault}")?;
+            Ok(Report::Refusal(line))
+        }
     }
 }

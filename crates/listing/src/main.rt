@@ -17,7 +17,7 @@ fn main(rt: HostRuntime) -> anyhow::Result<ExitCode> {
     // No conversion of a `usize` to a `u64` is without loss on every machine, so there is no `From`.
     rt.stdin().take(MOST as u64 + 1).read_to_end(&mut input)?;
     let report = list(rt.alloc(), input.as_slice())?;
-    rt.print(&report)?;
+    rt.print(report.text())?;
     Ok(match report {
         Report::Listing(_) => ExitCode::SUCCESS,
         Report::Refusal(_) => ExitCode::FAILURE,

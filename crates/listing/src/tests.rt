@@ -109,10 +109,9 @@ const CASES: [Case; 22] = [
 fn cases(rt: HostRuntime) -> Result<(), Fail> {
     for case in CASES.iter() {
         let report = list(rt.alloc(), case.input)?;
-        let printed = format!(in rt.alloc(); "{report}")?;
         let text = match report {
-            Report::Listing(_) => Ok(printed.as_str()),
-            Report::Refusal(_) => Err(printed.as_str()),
+            Report::Listing(_) => Ok(report.text()),
+            Report::Refusal(_) => Err(report.text()),
         };
         assert_eq!(rt; text, case.text);
     }
@@ -133,15 +132,9 @@ fn long_input(rt: &HostRuntime, bytes: usize) -> Result<Vec<u8>, Fail> {
 #[test]
 fn long_inputs(rt: HostRuntime) -> Result<(), Fail> {
     let longest = list(rt.alloc(), long_input(&rt, 16_384)?.as_slice())?;
-    assert_eq!(rt;
-        format!(in rt.alloc(); "{longest}")?.as_str(),
-        "refused 5 net 1536 512 0\n"
-    );
+    assert_eq!(rt; longest.text(), "refused 5 net 1536 512 0\n");
     let too_long = list(rt.alloc(), long_input(&rt, 16_385)?.as_slice())?;
-    assert_eq!(rt;
-        format!(in rt.alloc(); "{too_long}")?.as_str(),
-        "refused 13 input 0 0 0\n"
-    );
+    assert_eq!(rt; too_long.text(), "refused 13 input 0 0 0\n");
     let full = list(rt.alloc(), long_input(&rt, 1538)?.as_slice())?;
     assert!(rt; matches!(full, Report::Listing(_)));
     Ok(())
