@@ -55,7 +55,7 @@ impl fmt::Display for ListFault {
     /// Prints the one line of this refusal, with its end.
     fn fmt<W: fmt::Write>(&self, f: &mut fmt::Formatter<W>) -> fmt::Result {
         let number = self.number();
-        let layer = self.layer();
+        let layer = self.layer().name();
         let (offset, wire, pin) = match self {
             ListFault::Read(fault) => (fault.offset, fault.wire, fault.pin),
             _ => (0, 0, 0),

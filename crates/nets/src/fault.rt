@@ -47,16 +47,26 @@ pub enum Layer {
     Net,
 }
 
-impl fmt::Display for Layer {
-    ghost output = { λ l. Some (layer_name l) };
-
-    fn fmt<W: fmt::Write>(&self, f: &mut fmt::Formatter<W>) -> fmt::Result {
-        f.write_str(match self {
+impl Layer {
+    /// The name of this layer.
+    // A function of its own, since of what prints itself only that is promised which it prints where printing succeeds.
+    pub fn name(self) -> &'static str
+        ensures { result.now ≡ layer_name self }
+    {
+        match self {
             Layer::Input => "input",
             Layer::Record => "record",
             Layer::Algebra => "algebra",
             Layer::Net => "net",
-        })
+        }
+    }
+}
+
+impl fmt::Display for Layer {
+    ghost output = { λ l. Some (layer_name l) };
+
+    fn fmt<W: fmt::Write>(&self, f: &mut fmt::Formatter<W>) -> fmt::Result {
+        f.write_str(self.name())
     }
 }
 
