@@ -1,6 +1,6 @@
 //! What the algebras that count changes up to a cap do alike.
 
-ghost use Rattle.std.specs.Prelude.{◌≡◌, ℕ, Bool};
+ghost use Rattle.std.specs.Prelude.{◌≡◌, ℕ, Bool, min};
 ghost use Rattle.algebras.specs.Counting.{CountingLaws, Known, entry_of};
 ghost use Rattle.algebras.specs.Transient.{Transient, complement, driven};
 ghost use Rattle.algebras.specs.Sums.{sum2, product2, exclusive2};
@@ -28,9 +28,10 @@ pub(crate) trait Counting {
     // The transient that an entry stands for.
     ghost stands_for: { Self → Self.Entry → Transient };
 
-    // The parts of an entry.
+    // The parts of an entry, of which the count is the smaller of its changes and the cap.
     fn parts(&self, x: Self::Entry) -> Parts
-        ensures { Known (cap self.now) (stands_for self.now x) result.start result.«end» result.count };
+        ensures known { Known (cap self.now) (stands_for self.now x) result.start result.«end» result.count }
+        ensures counts { result.count ≡ min (stands_for self.now x).changes (cap self.now) };
 
     // The entry with this start, end and number of changes, which may be more than an entry counts, so that these are no `Parts`.
     fn of_changes(&self, start: bool, end: bool, changes: u32) -> Self::Entry

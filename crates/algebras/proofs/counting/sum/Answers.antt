@@ -10,5 +10,5 @@ returns g c =
     let b = c.parts-b.result in
     let p = byte_bit (a.start && b.start) in
     let q = byte_bit (a.«end» && b.«end») in
-    let e = known_entry laws (known_moving_sum laws.two (stands c.args.x) (stands c.args.y) c.parts-a.ensures c.parts-b.ensures (omega arith) (omega arith)) in
+    let e = known_entry laws (known_moving_sum laws.two (stands c.args.x) (stands c.args.y) c.parts-a.ensures.known c.parts-b.ensures.known (omega arith) (omega arith)) in
     cc

@@ -1,5 +1,8 @@
-use Rattle.algebras.specs.Counts.{stands_known}
+use Rattle.std.proofs.Common.{sym}
+use Rattle.algebras.specs.Counts.{stands_count, stands_known}
 use Rattle.algebras.proofs.counted.works.CountedCounting.parts.Goals as goal
 
 pub returns : goal.returns
-returns c = rw c.count.ensures.value (stands_known c.args.self.now.«cap» c.args.x)
+returns c =
+    let cap = c.args.self.now.«cap» in
+    rw c.count.ensures.value (record { known = stands_known cap c.args.x; counts = sym (stands_count cap c.args.x) })
