@@ -3,7 +3,8 @@ use Rattle.std.proofs.Common.{◌≡◌, ℕ, zero, suc, ◌+◌, ◌-◌, ◌*�
 use Rattle.std.proofs.lemmas.List.{get_or-take, get_or-drop, length-drop, take_rest}
 use Rattle.std.proofs.lemmas.Bool.{ne_eqb, le-ltb, lt-leb}
 use Rattle.algebras.specs.Letters.{or_of}
-use Rattle.nets.specs.declared.fault.Reason.TheVariants.{UnknownKind, CutShort}
+use Rattle.nets.specs.declared.fault.NetFault.{NetFault}
+use Rattle.nets.specs.declared.fault.Reason.TheVariants.{UnknownKind, CutShort, Refused}
 use Rattle.nets.specs.Placing.{Request, ask_input, ask_gate, refusal}
 use Rattle.nets.specs.Records.{known, is_input, body_size, pins_in, request_at, misread, carried, or_else, record_length, request_of, reason_of, pins_asked, first_high, search_high}
 use Rattle.nets.specs.Wires.{Plain}
@@ -47,6 +48,13 @@ gate_request bytes size kind long = go (get_or bytes 0 0) kind long
         ∙ ap (λ (n : ℕ). ask_gate (b / 16) (pins_in (take n (drop 1 bytes)))) (less (body_size b) long)
 
 -- Why a record that can be read is refused, and that it is not.
+pub record_refused : (ws : List Plain) (long : ℕ) (bytes : List ℕ) (q : Request) (f : NetFault) → misread (get_or bytes 0 0) (drop 1 bytes) ≡ None → request_of bytes ≡ q
+    → refusal (length ws) long q ≡ Some f → reason_of ws long bytes ≡ Some (Refused f)
+record_refused ws long bytes q f read asks refused =
+    ap (λ o. or_else o (carried (refusal (length ws) long (request_of bytes)))) read
+    ∙ ap (λ r. carried (refusal (length ws) long r)) asks
+    ∙ ap carried refused
+
 pub record_admitted : (ws : List Plain) (long : ℕ) (bytes : List ℕ) (q : Request) → misread (get_or bytes 0 0) (drop 1 bytes) ≡ None → request_of bytes ≡ q
     → refusal (length ws) long q ≡ None → reason_of ws long bytes ≡ None
 record_admitted ws long bytes q read asks admitted =

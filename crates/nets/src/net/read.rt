@@ -25,7 +25,8 @@ impl<L: Algebra> Net<L> {
         ensures kept { ColumnKept L.Algebra self.old column.old → ColumnKept L.Algebra self.new column.new }
     {
         let (record, size) = Record::first(bytes)?;
-        self.place(column, record.lent())?;
+        let pins = record.pins();
+        self.place(column, record.lent(pins.as_slice()))?;
         Ok(size)
     }
 

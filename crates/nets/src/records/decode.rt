@@ -1,10 +1,11 @@
 //! Taking records apart.
 
-ghost use Rattle.std.specs.Prelude.{◌≡◌, suc, ◌<◌, length, if◌then◌else◌, Some, None};
-ghost use Rattle.nets.specs.Decoding.{FirstRecord, record_request};
+ghost use Rattle.std.specs.Prelude.{◌≡◌, suc, ◌<◌, ◌≤◌, length, if◌then◌else◌, Some, None};
+ghost use Rattle.nets.specs.Decoding.{FirstRecord, record_body, record_request};
 ghost use Rattle.nets.specs.Faults.{unless};
 ghost use Rattle.nets.specs.Placing.{plain_request};
 ghost use Rattle.nets.specs.Records.{body_size, known, pins_asked, search_high};
+ghost use Rattle.nets.specs.Tables.{pin_list};
 ghost use Rattle.nets.specs.declared.fault.Reason.TheVariants.{UnknownKind};
 
 use crate::fault::Reason;
@@ -29,9 +30,9 @@ fn record_size(kind: u8) -> Result<usize, Reason>
     }
 }
 
-impl Record {
+impl<'a> Record<'a> {
     // The record that these bytes begin with, and its length.
-    pub(crate) fn first(bytes: &[u8]) -> Result<(Record, usize), Reason>
+    pub(crate) fn first(bytes: &'a [u8]) -> Result<(Record<'a>, usize), Reason>
         requires { 0 < length bytes.now }
         ensures { FirstRecord bytes.now result }
     {
@@ -39,22 +40,23 @@ impl Record {
         if bytes.len() < size {
             return Err(Reason::CutShort);
         }
-        let record = if bytes[0] == INPUT {
-            Request::Input {
+        if bytes[0] == INPUT {
+            let record = Request::Input {
                 start: bytes[1],
                 changes: bytes[2],
-            }
-        } else {
-            Request::Gate {
-                kind: bytes[0] / 16,
-                pins: Pins::decode(&bytes[1..size]),
-            }
+            };
+            return Ok((record, size));
+        }
+        let record = Request::Gate {
+            kind: bytes[0] / 16,
+            pins: &bytes[1..size],
         };
         Ok((record, size))
     }
 
-    // What this record asks for, with its pins lent: a method, whose name says so, and no conversion.
-    pub(crate) fn lent(&self) -> Request<&[u16]>
+    // What this record asks for, where these are its pins: a method, whose name says so, and no conversion.
+    pub(crate) fn lent<'p>(&self, pins: &'p [u16]) -> Request<&'p [u16]>
+        requires { pins.now ≡ pins_asked (record_request self.now) }
         ensures { plain_request result ≡ record_request self.now }
     {
         match self {
@@ -62,20 +64,18 @@ impl Record {
                 start: *start,
                 changes: *changes,
             },
-            Request::Gate { kind, pins } => Request::Gate {
-                kind: *kind,
-                pins: pins.as_slice(),
-            },
+            Request::Gate { kind, .. } => Request::Gate { kind: *kind, pins },
         }
     }
 
-    // The wires that the pins of this record name; an input has none.
-    fn pins(&self) -> &[u16]
-        ensures { result.now ≡ pins_asked (record_request self.now) }
+    // The pins of this record; an input has none.
+    pub(crate) fn pins(&self) -> Pins<15>
+        requires { length (record_body self.now) ≤ 30 }
+        ensures { pin_list result ≡ pins_asked (record_request self.now) }
     {
         match self {
-            Request::Input { .. } => &[],
-            Request::Gate { pins, .. } => pins.as_slice(),
+            Request::Input { .. } => Pins::decode(&[]),
+            Request::Gate { pins, .. } => Pins::decode(pins),
         }
     }
 }
@@ -95,7 +95,8 @@ pub(crate) fn first_high_pin(bytes: &[u8], wires: usize) -> Option<usize>
                 break 'search None;
             };
             // Both searches are left at once, by the label.
-            for (pin, named) in record.pins().iter().enumerate() {
+            let pins = record.pins();
+            for (pin, named) in pins.as_slice().iter().enumerate() {
                 if usize::from(*named) >= wire {
                     break 'search Some(pin);
                 }

@@ -11,8 +11,8 @@ pub loop-wire-preserved : goal.loop-wire-preserved
 loop-wire-preserved c =
     let w = c.loop-wire.wire in
     let rest = c.loop-wire.rest.now in
-    let ps = c.pins-named-items.ensures ∙ ap pins_asked c.in-Ok.ensures.1 in
-    let low = sym (ap (λ (qs : List ℕ). or_of (map (leb w) qs)) ps) ∙ sym c.loop-pin.invariant.0 ∙ high_none w c.pins-named-items.result.now c.loop-pin.pin c.loop-pin-test.false in
+    let ps = c.as_slice-named-items.ensures ∙ c.pins-pins.ensures ∙ ap pins_asked c.in-Ok.ensures.1 in
+    let low = sym (ap (λ (qs : List ℕ). or_of (map (leb w) qs)) ps) ∙ sym c.loop-pin.invariant.0 ∙ high_none w c.as_slice-named-items.result.now c.loop-pin.pin c.loop-pin-test.false in
     ap (search_high 0 (w + 1)) (take_rest rest c.in-Ok.size ∙ ap (λ (n : ℕ). drop n rest) c.in-Ok.ensures.2)
     ∙ sym (search_goes_on w rest (search rules) c.in-Ok.ensures.0 c.loop-wire-test.true low)
     ∙ c.loop-wire.invariant
