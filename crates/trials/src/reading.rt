@@ -3,7 +3,7 @@
 use crate::histories::records;
 use crate::net_a;
 use crate::standing::{Standing, same_entries};
-use nets::fault::{NetFault, ReadFault, Reason};
+use nets::fault::{Layer, NetFault, ReadFault, Reason};
 use std::ops::Range;
 use std::process::Abort;
 use std::test::*;
@@ -421,7 +421,15 @@ impl Refused<'_> {
     // Reads the bytes, and checks the refusal, and that the records before the refused one stay as they are read alone.
     fn check(&self, rt: &(impl Abort + AllocGlobal)) -> Result<(), Fail> {
         let mut standing = Standing::with_inputs(rt.alloc(), self.inputs, self.entries)?;
-        assert_eq!(rt; standing.read(self.bytes), Err(self.fault), "at {self:?}");
+        let Err(fault) = standing.read(self.bytes) else {
+            return Err(Fail::new("all records are read"));
+        };
+        assert_eq!(rt; fault, self.fault, "at {self:?}");
+        assert_eq!(rt;
+            (fault.number(), fault.layer()),
+            number_and_layer(self.fault.reason),
+            "at {self:?}"
+        );
         let mut alone = Standing::with_inputs(rt.alloc(), self.inputs, self.entries)?;
         let before = self.bytes.get(..self.fault.offset).ok_or("no such offset")?;
         alone.read(before)?;
@@ -435,6 +443,22 @@ impl Refused<'_> {
             "at {self:?}"
         );
         Ok(())
+    }
+}
+
+// The number and the layer of a refusal.
+fn number_and_layer(reason: Reason) -> (u8, Layer) {
+    match reason {
+        Reason::UnknownKind => (11, Layer::Record),
+        Reason::CutShort => (12, Layer::Record),
+        Reason::Refused(NetFault::NoSuchWire) => (2, Layer::Net),
+        Reason::Refused(NetFault::BadStart) => (4, Layer::Net),
+        Reason::Refused(NetFault::Full) => (5, Layer::Net),
+        Reason::Refused(NetFault::ShortColumn) => (6, Layer::Net),
+        Reason::Refused(NetFault::BadKind) => (7, Layer::Net),
+        Reason::Refused(NetFault::BadPinCount) => (8, Layer::Net),
+        Reason::Refused(NetFault::HighPin) => (9, Layer::Net),
+        Reason::Refused(NetFault::ShortBuffer) => (14, Layer::Net),
     }
 }
 

@@ -22,13 +22,13 @@ pub struct Standing<L: Algebra> {
     pub column: Vec<L::Grade>,
 }
 
-/// A column of so many entries, all of them the grade of a start at 1 and seven changes, which no input here has.
+/// A column of so many entries, all of them the grade of the word 0.
 pub(crate) fn blank_column<L: Algebra>(
     heap: Global,
     algebra: &L,
     entries: usize,
 ) -> Result<Vec<L::Grade>, AllocError> {
-    Ok(vec![in heap; algebra.drive(true, 7); entries]?)
+    Ok(vec![in heap; algebra.drive(false, 0); entries]?)
 }
 
 impl<L: Algebra + Drop> Standing<L> {
@@ -95,14 +95,16 @@ impl<L: Telling> Standing<L> {
 }
 
 impl Standing<Counted> {
-    /// A net of so many inputs, and a column of so many entries, where those above the inputs are blank.
+    /// A net of so many inputs, and a column of so many entries, where those above the inputs are as no input's.
     pub(crate) fn with_inputs(heap: Global, inputs: usize, entries: usize) -> Result<Self, Fail> {
-        let mut standing = Standing::open(heap, Counted::new(1000)?, entries.max(inputs))?;
+        let counted = Counted::new(1000)?;
+        let mut column = vec![in heap; counted.drive(true, 7); entries.max(inputs)]?;
+        let mut net = Net::open(heap, counted)?;
         for _ in 0..inputs {
-            standing.net.place_input(&mut standing.column, 0, 1)?;
+            net.place_input(&mut column, 0, 1)?;
         }
-        standing.column.truncate(entries);
-        Ok(standing)
+        column.truncate(entries);
+        Ok(Standing { net, column })
     }
 }
 
