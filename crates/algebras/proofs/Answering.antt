@@ -7,7 +7,7 @@ use Rattle.algebras.specs.Letters.{differ}
 use Rattle.algebras.specs.Hearing.{hears, changes_at, answered, HeardTo}
 use Rattle.algebras.specs.Hearing.HeardTo.{rests, arrives, loses}
 use Rattle.algebras.specs.SumsLemmas.{flipped_parity}
-use Rattle.algebras.proofs.Prefixes.{Prefixes, prefixes_self, rest_prefixes, hears_prefixes, prefixes_hear, changes_at_hears, prefixes_at, prefixes_join, prefixes_rest, hears_total}
+use Rattle.algebras.proofs.Prefixes.{Prefixes, prefixes_self, rest_prefixes, hears_prefixes, prefixes_hear, changes_at_hears, prefixes_at, prefixes_join, prefixes_rest, rest_same, hears_total}
 
 -- A change that can be heard last: at this pin, after what was heard before.
 pub record LastChange (hs : List Transient) : Type 0 where
@@ -83,6 +83,12 @@ heard_bounded r h =
 pub same_heard : {f : List Bool → Bool} {xs gs hs : List Transient} {m n lost : ℕ} → gs ≡ hs → m ≡ n → HeardTo f xs gs m lost → HeardTo f xs hs n lost
 same_heard {f} {xs} {gs} {hs} {m} {n} {lost} p q h =
     subst (λ k. HeardTo f xs hs k lost) q (subst (λ ts. HeardTo f xs ts m lost) p h)
+
+-- What a gate comes to, it comes to as well where its wires go on to change.
+pub heard_wider : {f : List Bool → Bool} {xs ys hs : List Transient} {made lost : ℕ} → Prefixes xs ys → HeardTo f xs hs made lost → HeardTo f ys hs made lost
+heard_wider p rests = same_heard (sym (rest_same p)) refl rests
+heard_wider p (arrives i h l) = let k = prefixes_at i p in arrives i (heard_wider p h) (omega arith)
+heard_wider p (loses i h l) = let k = prefixes_at i p in loses i (heard_wider p h) (omega arith)
 
 module _ {f : List Bool → Bool} {G : List Transient → Transient} (r : LongestFor f G) (xs : List Transient) where
   -- Where no change is heard, all changes are made at rest.

@@ -1,9 +1,9 @@
 -- Lists of transients of which each is a prefix of another's.
-use Rattle.std.proofs.Common.{◌≡◌, ℕ, zero, suc, ◌+◌, ◌<◌, ◌≤◌, not, List, [], ◌∷◌, map, refl, ap, ◌∙◌, arith}
+use Rattle.std.proofs.Common.{◌≡◌, ℕ, zero, suc, ◌+◌, ◌<◌, ◌≤◌, not, List, [], ◌∷◌, map, length, get_or, set, refl, ap, ◌∙◌, arith}
 use Rattle.algebras.specs.Transient.{Transient, complement}
 use Rattle.algebras.specs.Sums.{starts, total_changes}
 use Rattle.algebras.specs.Words.{same_transient, complement_involution}
-use Rattle.algebras.specs.Hearing.{at_rest, hears, changes_at}
+use Rattle.algebras.specs.Hearing.{at_rest, longer, hears, changes_at}
 
 -- Each transient of the first list is a prefix of the second list's: the same start, and no more changes.
 pub data Prefixes : List Transient → List Transient → Type 0 where
@@ -45,10 +45,21 @@ prefixes_at i none = omega arith
 prefixes_at zero (next s n p) = n
 prefixes_at (suc i) (next s n p) = prefixes_at i p
 
+-- A pin that hears one change more, by its place in the list.
+pub hears_set : (i : ℕ) (hs : List Transient) (d : Transient) → hears i hs ≡ set hs i (longer (get_or hs i d))
+hears_set i [] d = refl
+hears_set zero (h ∷ hs) d = refl
+hears_set (suc i) (h ∷ hs) d = ap (λ (ts : List Transient). h ∷ ts) (hears_set i hs d)
+
 -- Prefixes of prefixes are prefixes.
 pub prefixes_join : {gs hs xs : List Transient} → Prefixes gs hs → Prefixes hs xs → Prefixes gs xs
 prefixes_join none none = none
 prefixes_join (next s n p) (next t m q) = next (s ∙ t) (omega arith) (prefixes_join p q)
+
+-- There are as many prefixes as words.
+pub prefixes_length : {hs xs : List Transient} → Prefixes hs xs → length hs ≡ length xs
+prefixes_length none = refl
+prefixes_length (next s n p) = ap suc (prefixes_length p)
 
 -- The starts of prefixes are the starts.
 pub prefixes_starts : {hs xs : List Transient} → Prefixes hs xs → starts hs ≡ starts xs
